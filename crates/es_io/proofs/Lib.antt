@@ -1,0 +1,4 @@
+pub mod DocumentsLemmas
+pub mod KnownLemmas
+pub mod LinesLemmas
+pub mod PiecesLemmas
