@@ -1,0 +1,54 @@
+ghost use Rattle.std.specs.Prelude.{◌≡◌, ◌≤◌, ◌<◌, ◌^◌, ℕ, List, Option, Some, IfSome, IfOk, Bool, true, false, OnOk, OnErr};
+ghost use Rattle.es_model.specs.declared.event.Recording.{Recording};
+ghost use Rattle.es_model.specs.Causes.{CallHasCause, Rose};
+ghost use Rattle.es_model.specs.History.{Histories, IsFormed};
+ghost use Rattle.es_model.specs.Values.{Name};
+ghost use Rattle.es_recorder.specs.Held.{put, SameElsewhere, ClosesTold};
+
+use crate::ProcessRecorder;
+use es_model::{CallFault, Text};
+
+/// What keeps a recorder for each application.
+pub trait Stores {
+    type R: ProcessRecorder;
+
+    /// The history of each application that isn't out, where they are told.
+    ghost held: { Self → Option Histories };
+
+    /// Which applications' recorders are out.
+    ghost out: { Self → Name → Bool };
+
+    /// How often opening, or a recorder that was closed, has failed.
+    ghost faults: { Self → ℕ };
+
+    /// Hands an application's recorder out, until it is closed. In one run every call has the same
+    /// place. To open one that is out counts as a fault.
+    fn open(
+        &mut self,
+        place: Option<&Text>,
+        app: &Text,
+        capacity: u64,
+    ) -> Result<Self::R, CallFault>
+        requires { capacity < 2 ^ 62 }
+        ensures opened { IfSome (held self.old) (λ h. IfOk result (λ r. Self.R.history r ≡ Some (h app.now))) }
+        ensures stable { IfOk result (λ r. Self.R.stable r ≡ Self.R.history r) }
+        ensures capacity { IfOk result (λ r. Self.R.capacity r ≡ capacity) }
+        ensures fresh { IfOk result (λ r. Self.R.faults r ≡ 0) }
+        ensures was_in { OnOk result (out self.old app.now ≡ false) }
+        ensures twice { out self.old app.now ≡ true → Rose (faults self.old) (faults self.new) }
+        ensures out { OnOk result ((name : Name) → out self.new name ≡ put (out self.old) app.now true name) }
+        ensures others { SameElsewhere app.now (held self.old) (held self.new) }
+        ensures refused { OnErr result (held self.new ≡ held self.old) }
+        ensures still { OnErr result ((name : Name) → out self.new name ≡ out self.old name) }
+        ensures cause { CallHasCause (faults self.old) (faults self.new) result };
+
+    /// Takes a recorder back, with all that it holds. It can't be refused, and takes no memory.
+    fn close(&mut self, app: &Text, recorder: Self::R)
+        ensures closed { ClosesTold (out self.old app.now) (held self.old) app.now (Self.R.history recorder) (held self.new) }
+        ensures in_again { (name : Name) → out self.new name ≡ put (out self.old) app.now false name }
+        ensures later { faults self.old ≤ faults self.new }
+        ensures risen { 0 < Self.R.faults recorder → Rose (faults self.old) (faults self.new) };
+
+    /// Each history that is told is formed.
+    ghost formed: { (s : Self) → IfSome (held s) (λ h. (name : Name) → IsFormed (h name)) };
+}
