@@ -1,0 +1,5 @@
+pub mod AnswerLemmas
+pub mod ReadingLemmas
+pub mod RunLemmas
+pub mod SingleThreadLemmas
+pub mod TopLemmas

@@ -1,0 +1,40 @@
+-- Statuses, and the ends of a run that they tell.
+use Rattle.std.specs.Prelude.{ℕ, Bool, true, false}
+use Rattle.es_top.specs.declared.texts.End.{End}
+use Rattle.es_top.specs.declared.texts.End.TheVariants as end
+use Rattle.es_top.specs.declared.texts.Status.{Status}
+use Rattle.es_top.specs.declared.texts.Status.TheVariants as status
+
+-- the status of an end whose line was written
+abbrev pub status_of : End → Status
+status_of (end.Ok added lines) = status.Ok added lines
+status_of end.Memory = status.Memory
+status_of end.Usage = status.Usage
+status_of end.Input = status.Input
+status_of end.Recorder = status.Recorder
+status_of (end.Full app last capacity) = status.Full app last capacity
+status_of end.Over = status.Over
+status_of end.NotBuilt = status.NotBuilt
+
+-- the number of a status
+abbrev pub code_of : Status → ℕ
+code_of (status.Ok added lines) = 0
+code_of status.Memory = 1
+code_of status.Usage = 2
+code_of status.Input = 5
+code_of status.Sink = 6
+code_of status.Recorder = 7
+code_of (status.Full app last capacity) = 12
+code_of status.Over = 13
+code_of status.NotBuilt = 15
+
+-- the ends whose lines have fixed bytes
+abbrev pub is_fixed : End → Bool
+is_fixed (end.Ok added lines) = false
+is_fixed (end.Full app last capacity) = false
+is_fixed end.Memory = true
+is_fixed end.Usage = true
+is_fixed end.Input = true
+is_fixed end.Recorder = true
+is_fixed end.Over = true
+is_fixed end.NotBuilt = true

@@ -1,0 +1,13 @@
+pub mod Answer
+pub mod Answered
+pub mod Decision
+pub mod Ends
+pub mod Faults
+pub mod Reading
+pub mod Requests
+pub mod Sample
+pub mod Serves
+pub mod SingleThread
+pub mod Texts
+pub mod Top
+pub mod Words

@@ -1,0 +1,16 @@
+-- What the reader of lines finds in a line.
+use Rattle.std.specs.Prelude.{◌≡◌, ℕ, List, Option, Some, None}
+use Rattle.es_model.specs.declared.event.Recording.{Recording}
+use Rattle.es_top.specs.declared.request.OpenAccount.{OpenAccount}
+use Rattle.es_top.specs.Requests.{command, no_request}
+use Rattle.es_top.specs.Sample.{bank, sample_request, opening_in, decide_line, decide_opening}
+
+-- the line is a command to open this account, and is decided so
+pub record Opens (line : List ℕ) (account : OpenAccount) : Type 0 where
+  pub asked : sample_request line ≡ command bank line account.id
+  pub decided : (before : List Recording) → decide_line before (opening_in line) ≡ decide_opening before account.owner (Some account.id)
+
+-- the account that a line opens, or that it is no request
+abbrev pub ReadsOpening : List ℕ → Option OpenAccount → Type 0
+ReadsOpening line None = sample_request line ≡ no_request
+ReadsOpening line (Some account) = Opens line account

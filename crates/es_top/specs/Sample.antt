@@ -1,0 +1,95 @@
+-- The sample system, with its one application and its one command.
+use Rattle.std.specs.Prelude.{ℕ, ℤ, ◌-◌, ◌==◌, nat_lt, nat_le, Bool, ◌&&◌, ◌||◌, List, [], ◌∷◌, ◌++◌, length, take, drop, if◌then◌else◌, Option, Some, None, codes}
+use Rattle.std.specs.List.{list_all}
+use Rattle.std.specs.Str.{bytes_eq}
+use Rattle.uuid.specs.Text.{parsed}
+use Rattle.es_model.specs.declared.event.StoredEvent.{StoredEvent}
+use Rattle.es_model.specs.declared.event.Recording.{Recording}
+use Rattle.es_model.specs.declared.event.Cause.{Cause}
+use Rattle.es_model.specs.declared.event.Cause.TheVariants.{Command, Notification}
+use Rattle.es_model.specs.History.{log, latest}
+use Rattle.es_model.specs.Values.{Name, Id}
+use Rattle.es_top.specs.Decision.{Rules, Logs, Decision, events, refused}
+use Rattle.es_top.specs.Requests.{Request, command, no_request}
+
+abbrev pub bank : Name
+bank = codes "bank"
+
+-- the three parts of a line that opens an account, around the owner and the id
+abbrev pub line_head : List ℕ
+line_head = codes "{\"app\":\"bank\",\"args\":{\"owner\":\""
+
+abbrev pub line_middle : List ℕ
+line_middle = codes "\"},\"do\":\"Account.Open\",\"id\":\""
+
+abbrev pub line_tail : List ℕ
+line_tail = codes "\"}"
+
+-- the line that opens an account for an owner under an id, both as texts
+abbrev pub open_line : List ℕ → List ℕ → List ℕ
+open_line owner id = line_head ++ (owner ++ (line_middle ++ (id ++ line_tail)))
+
+-- a lower-case letter, and a lower-case hexadecimal digit
+abbrev pub is_letter : ℕ → Bool
+is_letter c = nat_le 97 c && nat_le c 122
+
+abbrev pub is_digit : ℕ → Bool
+is_digit c = (nat_le 48 c && nat_le c 57) || (nat_le 97 c && nat_le c 102)
+
+-- an owner has at most 40 letters, and an id has 32 digits
+abbrev pub is_owner : List ℕ → Bool
+is_owner owner = nat_le (length owner) 40 && list_all is_letter owner
+
+abbrev pub is_id : List ℕ → Bool
+is_id id = (length id == 32) && list_all is_digit id
+
+-- what stands in a line at the places of the owner and of the id
+abbrev pub owner_in : List ℕ → List ℕ
+owner_in line = take (length line - length (open_line [] []) - 32) (drop (length line_head) line)
+
+abbrev pub id_in : List ℕ → List ℕ
+id_in line = take 32 (drop (length line - length line_tail - 32) line)
+
+-- an account to be opened: its owner, and its id as a text
+pub record Opening : Type 0 where
+  pub owner : List ℕ
+  pub id : List ℕ
+
+-- the account that a line opens: the line is exactly the one of that owner and that id
+abbrev pub opening_in : List ℕ → Option Opening
+opening_in line =
+    if bytes_eq line (open_line (owner_in line) (id_in line)) && (is_owner (owner_in line) && is_id (id_in line))
+    then Some (record { owner = owner_in line; id = id_in line }) else None
+
+-- the command of a line, under the id that its text is read as
+abbrev pub request_of : List ℕ → Option (List ℕ) → Request
+request_of line None = no_request
+request_of line (Some id) = command bank line id
+
+abbrev pub sample_request_of : List ℕ → Option Opening → Request
+sample_request_of line None = no_request
+sample_request_of line (Some opening) = request_of line (parsed opening.id)
+
+abbrev pub sample_request : List ℕ → Request
+sample_request line = sample_request_of line (opening_in line)
+
+-- the event of an account that is opened; its state is the owner
+abbrev pub opened : List ℕ → Id → StoredEvent
+opened owner id = record { originator_id = id; originator_version = 1; topic = codes "Account.Opened"; state = owner }
+
+-- an account is opened where the application has no event of its id
+abbrev pub decide_opening : List Recording → List ℕ → Option Id → Decision
+decide_opening before owner None = refused [] 0
+decide_opening before owner (Some id) = if nat_lt 0 (latest (log before) id) then refused (codes "exists") 0 else events (opened owner id ∷ [])
+
+abbrev pub decide_line : List Recording → Option Opening → Decision
+decide_line before None = refused [] 0
+decide_line before (Some opening) = decide_opening before opening.owner (parsed opening.id)
+
+-- only the bank decides, and no cause but the text of such a line comes to be decided
+abbrev pub sample_decide : Name → List Recording → Logs → Cause → ℤ → Decision
+sample_decide app before logs (Command text) at = if bytes_eq app bank then decide_line before (opening_in text) else refused [] 0
+sample_decide app before logs (Notification leader id) at = refused [] 0
+
+abbrev pub sample : Rules
+sample = record { names = bank ∷ []; request = sample_request; decide = sample_decide }
