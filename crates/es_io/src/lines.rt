@@ -157,6 +157,7 @@ impl<'a, S: Source> Lines<'a, S> {
         ensures same_reference { IfOk result (λ l. (source_of l).ghost_name ≡ source.entry.ghost_name) }
         ensures source { IfOk result (λ l. (source_of l).now ≡ source.old) }
         ensures lines { IfOk result (λ l. lines_left S.left l ≡ option_map (lines_of line_limit total_limit) (S.left source.old)) }
+        ensures unread { IfOk result (λ l. unread_of S.left l ≡ S.left source.old) }
         ensures room { IfOk result (λ l. room_of l ≡ total_limit) }
         ensures bound { IfOk result (λ l. may_take l ≡ total_limit + 1) }
         ensures clear { IfOk result (λ l. fault_of l ≡ None) }

@@ -1,7 +1,10 @@
 -- Laws of logs, versions and causes.
-use Rattle.std.proofs.Common.{◌≡◌, ◌≤◌, ◌<◌, ◌+◌, ◌==◌, ℕ, Bool, true, false, ◌&&◌, max, List, [], ◌∷◌, ◌++◌, length, take, drop, get_or, if◌then◌else◌, refl, sym, ap, ◌∙◌, append-nil, append_assoc, length-append, take-append-drop, drop-cons, add-one, arith}
+use Rattle.std.proofs.Common.{◌≡◌, ◌≤◌, ◌<◌, ◌+◌, ◌^◌, ◌==◌, ℕ, Bool, true, false, ◌&&◌, max, List, [], ◌∷◌, ◌++◌, length, take, drop, get_or, if◌then◌else◌, refl, sym, ap, ◌∙◌, append-nil, append_assoc, length-append, take-append-drop, drop-cons, add-one, arith}
 use Rattle.std.proofs.Math.Seq.{take-suc}
+use Rattle.std.proofs.lemmas.Bool.Decides.{nat_tests}
 use Rattle.std.specs.Str.{bytes_eq}
+use Rattle.es_model.specs.declared.event.Cause.{Cause}
+use Rattle.es_model.specs.declared.event.Cause.TheVariants.{Command, Notification}
 use Rattle.es_model.specs.declared.event.StoredEvent.{StoredEvent}
 use Rattle.es_model.specs.declared.event.Recording.{Recording}
 use Rattle.es_model.specs.Values.{Name, Id}
@@ -56,6 +59,10 @@ tracked_in-drop h i r leader within is = at_place (λ t. tracked_in t leader) h 
 pub size-push : (h : List Recording) (r : Recording) → length (log (h ++ r ∷ [])) ≡ length (log h) + length r.events
 size-push h r = ap length (log-push h r) ∙ length-append (log h) r.events
 
+pub both_true : (a b : Bool) → (a && b) ≡ true → (a ≡ true) × (b ≡ true)
+both_true true b is = (refl, is)
+both_true false b is = absurd (cc is)
+
 and_assoc : (a b c : Bool) → (a && (b && c)) ≡ ((a && b) && c)
 and_assoc true b c = refl
 and_assoc false b c = refl
@@ -92,3 +99,24 @@ causes_follow-place h i r within is =
 -- a front of a history has no more events
 pub log-take : (h : List Recording) (n : ℕ) → length (log (take n h)) ≤ length (log h)
 log-take h n = omega (arith, ap (λ t. length (log t)) (take-append-drop n h), ap length (log-append (take n h) (drop n h)), length-append (log (take n h)) (log (drop n h)))
+
+-- how far a history with one more recording tracks a leader
+pub tracked_in-push : (h : List Recording) (r : Recording) (leader : Name) → tracked_in (h ++ r ∷ []) leader ≡ max (tracked_in h leader) (id_from r.cause leader)
+tracked_in-push [] r leader = omega arith
+tracked_in-push (x ∷ h) r leader = omega (arith, tracked_in-push h r leader)
+
+small_id : (before : List Recording) (cause : Cause) (leader : Name) → cause_follows before cause ≡ true → id_from cause leader < 2 ^ 62
+small_id before (Command text) leader follows = omega arith
+small_id before (Notification from id) leader follows =
+    let small : id < 2 ^ 62 = grind (arith, nat_tests, follows) in
+    elim (bytes_eq from leader) as (λ b. (if b then id else 0) < 2 ^ 62) [
+      | true ↦ small
+      | false ↦ omega arith
+    ]
+
+-- what a formed history tracks is small
+pub tracked_in-small : (before h : List Recording) (leader : Name) → causes_follow before h ≡ true → tracked_in h leader < 2 ^ 62
+tracked_in-small before [] leader follow = omega arith
+tracked_in-small before (r ∷ h) leader follow =
+    let parts = both_true (cause_follows before r.cause) (causes_follow (before ++ r ∷ []) h) follow in
+    omega (arith, small_id before r.cause leader parts.0, tracked_in-small (before ++ r ∷ []) h leader parts.1)

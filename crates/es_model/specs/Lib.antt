@@ -2,5 +2,8 @@ pub mod Causes
 pub mod History
 pub mod Lines
 pub mod Rising
+pub mod Scaled
+pub mod Snapshots
 pub mod Tracking
 pub mod Values
+pub mod formers

@@ -12,6 +12,13 @@ pub struct StoredEvent {
     pub state: Bytes,
 }
 
+/// A stored event with its id, its place in the application's log.
+#[derive(Debug, Drop)]
+pub struct Notification {
+    pub id: u64,
+    pub event: StoredEvent,
+}
+
 /// What a recording came from: a command, as its text, or a leader's notification.
 #[derive(Debug, Drop)]
 pub enum Cause {
@@ -34,6 +41,15 @@ impl Duplicate for StoredEvent {
             originator_version: self.originator_version,
             topic: self.topic.copy()?,
             state: self.state.copy()?,
+        })
+    }
+}
+
+impl Duplicate for Notification {
+    fn copy(&self) -> Result<Notification, NoMemory> {
+        Ok(Notification {
+            id: self.id,
+            event: self.event.copy()?,
         })
     }
 }

@@ -7,7 +7,7 @@ use std::marker::Model;
 /// A list of items, seen as the list of their values.
 #[derive(Debug, Drop)]
 pub struct List<T> {
-    items: Vec<T>,
+    pub(crate) items: Vec<T>,
 }
 
 impl<T> Model for List<T> {
@@ -69,7 +69,7 @@ impl<T: Drop> List<T> {
 }
 
 // A copy of each item, in order.
-fn copies<T: Duplicate>(alloc: Global, items: &[T]) -> Result<Vec<T>, NoMemory>
+pub(crate) fn copies<T: Duplicate>(alloc: Global, items: &[T]) -> Result<Vec<T>, NoMemory>
     ensures { IfOk result (λ v. v.items ≡ items.now) }
 {
     let mut all = Vec::with_capacity(alloc, items.len())?;

@@ -33,6 +33,15 @@ impl Duplicate for u64 {
     }
 }
 
+impl<T: Duplicate> Duplicate for Option<T> {
+    fn copy(&self) -> Result<Option<T>, NoMemory> {
+        match self {
+            Some(item) => Ok(Some(item.copy()?)),
+            None => Ok(None),
+        }
+    }
+}
+
 impl<A: Duplicate, B: Duplicate> Duplicate for (A, B) {
     fn copy(&self) -> Result<(A, B), NoMemory> {
         Ok((self.0.copy()?, self.1.copy()?))

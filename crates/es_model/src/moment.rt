@@ -46,7 +46,8 @@ impl Moment {
 
     /// The microseconds since the beginning of 1970.
     pub fn micros(self) -> i64
-        ensures { result ≡ self }
+        ensures value { result ≡ self }
+        ensures range { (pos 0 ≤ℤ result) × (result ≤ℤ pos 253402300799999999) }
     {
         self.0
     }

@@ -67,6 +67,154 @@ fn moments(rt: HostRuntime) {
     }
 }
 
+fn text(alloc: Global, text: &str) -> Result<Text, NoMemory> {
+    Text::from_str(alloc, text)
+}
+
+#[test]
+fn decimals(rt: HostRuntime) {
+    for (scale, is_decimal) in [(0, true), (6, true), (7, false), (255, false)] {
+        assert_eq!(rt; Decimal::new(-5, scale).is_some(), is_decimal, "at {scale}");
+    }
+    if let Some(decimal) = Decimal::new(i64::MIN, 6) {
+        assert_eq!(rt; (decimal.digits(), decimal.scale()), (i64::MIN, 6));
+    }
+}
+
+#[test]
+fn atoms_fit_their_kinds(rt: HostRuntime) -> Result<(), Fail> {
+    let owner = Value::One(Atom::Text(text(rt.alloc(), "ann")?));
+    let none = Value::List(List::new(rt.alloc()));
+    for (kind, is_text, is_list) in [
+        (Kind::One(AtomKind::Text), true, false),
+        (Kind::One(AtomKind::Int), false, false),
+        (Kind::List(AtomKind::Text), false, true),
+        (Kind::List(AtomKind::Int), false, true),
+    ] {
+        assert_eq!(rt; fits(&owner, &kind), is_text, "of {kind:?}");
+        assert_eq!(rt; fits(&none, &kind), is_list, "of {kind:?}");
+        assert_eq!(rt; fits(&Value::One(Atom::Null), &kind), false, "of {kind:?}");
+    }
+    Ok(())
+}
+
+// A text of so many letters, and a list of so many of it.
+fn long(alloc: Global, letters: usize, items: usize) -> Result<Value, NoMemory> {
+    let mut string = String::new(alloc);
+    for _ in 0..letters {
+        string.push('a')?;
+    }
+    let mut list = List::new(alloc);
+    for _ in 0..items {
+        list.push(Atom::Text(text(alloc, string.as_str())?))?;
+    }
+    Ok(Value::List(list))
+}
+
+#[test]
+fn long_values_do_not_fit(rt: HostRuntime) -> Result<(), Fail> {
+    for (letters, items, is_fit) in [
+        (4096, 1, true),
+        (4097, 1, false),
+        (1, 256, true),
+        (1, 257, false),
+    ] {
+        let value = long(rt.alloc(), letters, items)?;
+        assert_eq!(rt;
+            fits(&value, &Kind::List(AtomKind::Text)),
+            is_fit,
+            "{letters} {items}"
+        );
+    }
+    Ok(())
+}
+
+fn numbers(alloc: Global, names: &[&str]) -> Result<Counts, NoMemory> {
+    let mut counts = Counts::new(alloc);
+    for (number, name) in (0u64..).zip(names) {
+        counts.put(text(alloc, name)?, number)?;
+    }
+    Ok(counts)
+}
+
+#[test]
+fn names_rise(rt: HostRuntime) -> Result<(), Fail> {
+    let mut counts = numbers(rt.alloc(), &["b", "zürich", "a", "", "b"])?;
+    let removed = counts.remove(&text(rt.alloc(), "")?);
+    assert_eq!(rt; removed, Some(3));
+    assert_eq!(rt; counts.remove(&text(rt.alloc(), "c")?), None);
+    assert_eq!(rt; counts.get(&text(rt.alloc(), "b")?), Some(&4));
+    assert_eq!(rt; counts.get(&text(rt.alloc(), "z")?), None);
+    let mut wanted = [("a", 2), ("b", 4), ("zürich", 1)].iter();
+    for (name, number) in counts.as_slice() {
+        assert_eq!(rt; wanted.next(), Some(&(name.as_str(), *number)));
+    }
+    assert_eq!(rt; wanted.next(), None);
+    Ok(())
+}
+
+// The expression that a name isn't below 5.
+fn at_least_five(alloc: Global, name: &str) -> Result<Expr, NoMemory> {
+    let five = Boxed::new(alloc, Expr::Int(5))?;
+    let name = Boxed::new(alloc, Expr::Get(text(alloc, name)?))?;
+    Ok(Expr::Not(Boxed::new(alloc, Expr::Lt(name, five))?))
+}
+
+#[test]
+fn expressions(rt: HostRuntime) -> Result<(), Fail> {
+    let copy = at_least_five(rt.alloc(), "arg.amount")?.copy()?;
+    if let Expr::Not(below) = &copy
+        && let Expr::Lt(name, five) = below.get()
+        && let Expr::Get(name) = name.get()
+        && let Expr::Int(five) = five.get()
+    {
+        assert_eq!(rt; (name.as_str(), *five), ("arg.amount", 5));
+        return Ok(());
+    }
+    Err("another expression".into())
+}
+
+#[test]
+fn domain_events(rt: HostRuntime) -> Result<(), Fail> {
+    let mut fields = Fields::new(rt.alloc());
+    fields.push((text(rt.alloc(), "amount")?, Value::One(Atom::Int(5))))?;
+    let event = DomainEvent {
+        originator_id: Uuid::from_u128(7),
+        originator_version: 2,
+        timestamp: Moment::nearest(5),
+        topic: text(rt.alloc(), "Account.Deposited")?,
+        fields,
+    };
+    let copy = event.copy()?;
+    assert_eq!(rt; copy.originator_id, Uuid::from_u128(7));
+    assert_eq!(rt; copy.timestamp.micros(), 5);
+    assert_eq!(rt; copy.topic.as_str(), "Account.Deposited");
+    assert_eq!(rt; copy.fields.as_slice().len(), 1);
+    Ok(())
+}
+
+#[test]
+fn systems(rt: HostRuntime) -> Result<(), Fail> {
+    let mut system = System {
+        apps: List::new(rt.alloc()),
+        classes: List::new(rt.alloc()),
+        pipes: List::new(rt.alloc()),
+    };
+    system.apps.push(App {
+        name: text(rt.alloc(), "bank")?,
+        classes: List::new(rt.alloc()),
+        policies: List::new(rt.alloc()),
+        section_size: Some(10),
+    })?;
+    let copy = system.copy()?;
+    for app in copy.apps.as_slice() {
+        assert_eq!(rt; app.name.as_str(), "bank");
+        assert_eq!(rt; app.section_size, Some(10));
+    }
+    assert_eq!(rt; copy.apps.len(), 1);
+    Ok(())
+}
+
 #[test]
 fn counts(rt: HostRuntime) -> Result<(), Fail> {
     let mut counts = Counts::new(rt.alloc());

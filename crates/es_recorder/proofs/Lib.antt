@@ -1,2 +1,5 @@
 pub mod ContentsLemmas
+pub mod CrashImageLemmas
+pub mod HeldLemmas
 pub mod InsertLemmas
+pub mod SelectionLemmas

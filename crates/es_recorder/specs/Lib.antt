@@ -1,4 +1,7 @@
-pub mod Contents
+pub mod CrashImage
+pub mod HandedOut
 pub mod Held
 pub mod Insert
+pub mod Puts
+pub mod Selections
 pub mod Stable

@@ -1,5 +1,19 @@
-pub mod AnswerLemmas
-pub mod ReadingLemmas
-pub mod RunLemmas
-pub mod SingleThreadLemmas
-pub mod TopLemmas
+mod AmongLemmas
+mod ApplicationLemmas
+mod ConsistentLemmas
+mod DecidedLemmas
+mod DrainLemmas
+mod EndLemmas
+mod FollowsLemmas
+mod LoopLemmas
+mod ReadingLemmas
+mod RunReachedLemmas
+mod RunSessionLemmas
+mod SampleLemmas
+mod ServesLemmas
+mod SessionLemmas
+mod SingleThreadLemmas
+mod StandingLemmas
+mod TakenLemmas
+mod TopLemmas
+mod TurnsLemmas

@@ -7,7 +7,7 @@ use Rattle.es_top.specs.Sample.{bank, sample_request, opening_in, decide_line, d
 
 -- the line is a command to open this account, and is decided so
 pub record Opens (line : List ℕ) (account : OpenAccount) : Type 0 where
-  pub asked : sample_request line ≡ command bank line account.id
+  pub asked : sample_request line ≡ command bank line account.id None
   pub decided : (before : List Recording) → decide_line before (opening_in line) ≡ decide_opening before account.owner (Some account.id)
 
 -- the account that a line opens, or that it is no request

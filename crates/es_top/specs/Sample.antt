@@ -1,5 +1,5 @@
--- The sample system, with its one application and its one command.
-use Rattle.std.specs.Prelude.{ℕ, ℤ, ◌-◌, ◌==◌, nat_lt, nat_le, Bool, ◌&&◌, ◌||◌, List, [], ◌∷◌, ◌++◌, length, take, drop, if◌then◌else◌, Option, Some, None, codes}
+-- The sample system: its two applications, its one command, and its one rule.
+use Rattle.std.specs.Prelude.{ℕ, ℤ, ◌-◌, ◌==◌, nat_lt, nat_le, Bool, ◌&&◌, ◌||◌, List, [], ◌∷◌, ◌++◌, length, take, drop, slice_get, if◌then◌else◌, Option, Some, None, codes}
 use Rattle.std.specs.List.{list_all}
 use Rattle.std.specs.Str.{bytes_eq}
 use Rattle.uuid.specs.Text.{parsed}
@@ -9,11 +9,14 @@ use Rattle.es_model.specs.declared.event.Cause.{Cause}
 use Rattle.es_model.specs.declared.event.Cause.TheVariants.{Command, Notification}
 use Rattle.es_model.specs.History.{log, latest}
 use Rattle.es_model.specs.Values.{Name, Id}
-use Rattle.es_top.specs.Decision.{Rules, Logs, Decision, events, refused}
+use Rattle.es_top.specs.Decision.{Rules, Logs, Decision, events, refused, unreadable}
 use Rattle.es_top.specs.Requests.{Request, command, no_request}
 
 abbrev pub bank : Name
 bank = codes "bank"
+
+abbrev pub audit : Name
+audit = codes "audit"
 
 -- the three parts of a line that opens an account, around the owner and the id
 abbrev pub line_head : List ℕ
@@ -64,7 +67,7 @@ opening_in line =
 -- the command of a line, under the id that its text is read as
 abbrev pub request_of : List ℕ → Option (List ℕ) → Request
 request_of line None = no_request
-request_of line (Some id) = command bank line id
+request_of line (Some id) = command bank line id None
 
 abbrev pub sample_request_of : List ℕ → Option Opening → Request
 sample_request_of line None = no_request
@@ -77,7 +80,7 @@ sample_request line = sample_request_of line (opening_in line)
 abbrev pub opened : List ℕ → Id → StoredEvent
 opened owner id = record { originator_id = id; originator_version = 1; topic = codes "Account.Opened"; state = owner }
 
--- an account is opened where the application has no event of its id
+-- an account is opened where the application has no event of its id; whether such an event has a meaning isn't looked at, since over empty openings each has
 abbrev pub decide_opening : List Recording → List ℕ → Option Id → Decision
 decide_opening before owner None = refused [] 0
 decide_opening before owner (Some id) = if nat_lt 0 (latest (log before) id) then refused (codes "exists") 0 else events (opened owner id ∷ [])
@@ -86,10 +89,35 @@ abbrev pub decide_line : List Recording → Option Opening → Decision
 decide_line before None = refused [] 0
 decide_line before (Some opening) = decide_opening before opening.owner (parsed opening.id)
 
--- only the bank decides, and no cause but the text of such a line comes to be decided
+-- the event of a statement that is started; its state is empty
+abbrev pub started : Id → StoredEvent
+started id = record { originator_id = id; originator_version = 1; topic = codes "Statement.Started"; state = [] }
+
+-- an entry has a meaning where it is an opened account in the bank, or a started statement in audit
+abbrev pub is_meant : Name → StoredEvent → Bool
+is_meant app e = (bytes_eq app bank && bytes_eq e.topic (codes "Account.Opened")) || (bytes_eq app audit && bytes_eq e.topic (codes "Statement.Started"))
+
+-- a statement is started where the application has no event of its id; else the rule, the first, refuses
+abbrev pub decide_starting : List Recording → Id → Decision
+decide_starting before id = if nat_lt 0 (latest (log before) id) then refused (codes "exists") 1 else events (started id ∷ [])
+
+-- the policy of an application has a rule about an event
+abbrev pub has_rule : Name → StoredEvent → Bool
+has_rule app e = bytes_eq app audit && bytes_eq e.topic (codes "Account.Opened")
+
+-- each opened account starts a statement with the same id in audit; nothing else follows from an event
+abbrev pub decide_event : Name → List Recording → StoredEvent → Decision
+decide_event app before e = if has_rule app e then decide_starting before e.originator_id else events []
+
+-- a leader's entry, where it is there and has a meaning; ids count from 1
+abbrev pub decide_entry : Name → List Recording → Name → ℕ → Option StoredEvent → Decision
+decide_entry app before leader id None = unreadable leader id
+decide_entry app before leader id (Some e) = if is_meant leader e then decide_event app before e else unreadable leader id
+
+-- a command is decided in the bank alone, and no cause but the text of such a line comes to be decided
 abbrev pub sample_decide : Name → List Recording → Logs → Cause → ℤ → Decision
 sample_decide app before logs (Command text) at = if bytes_eq app bank then decide_line before (opening_in text) else refused [] 0
-sample_decide app before logs (Notification leader id) at = refused [] 0
+sample_decide app before logs (Notification leader id) at = decide_entry app before leader id (slice_get (logs leader) (id - 1))
 
 abbrev pub sample : Rules
-sample = record { names = bank ∷ []; request = sample_request; decide = sample_decide }
+sample = record { names = audit ∷ bank ∷ []; pairs = (bank, audit) ∷ []; request = sample_request; decide = sample_decide }

@@ -3,16 +3,18 @@ use Rattle.std.specs.Prelude.{ℕ, List, [], ◌∷◌, ◌++◌, codes}
 use Rattle.std.specs.Fmt.{decimal}
 use Rattle.es_model.specs.Values.{Name}
 use Rattle.es_top.specs.declared.texts.Reply.{Reply}
-use Rattle.es_top.specs.declared.texts.Reply.TheVariants.{Accepted, Refused, Syntax}
+use Rattle.es_top.specs.declared.texts.Reply.TheVariants as reply
 use Rattle.es_top.specs.declared.texts.End.{End}
-use Rattle.es_top.specs.declared.texts.End.TheVariants.{Ok, Memory, Usage, Input, Recorder, Full, Over, NotBuilt}
+use Rattle.es_top.specs.declared.texts.End.TheVariants.{Ok, Memory, Usage, Input, Recorder, Refused, Turns, Unreadable, Full, Over, NotBuilt}
 
 -- the text of a reply, by which a line is answered
 abbrev pub reply_text : Reply → List ℕ
-reply_text (Accepted recording first last version) =
+reply_text (reply.Accepted recording first last version) =
     codes "{\"first\":" ++ (decimal first ++ (codes ",\"last\":" ++ (decimal last ++ (codes ",\"ok\":\"do\",\"recording\":" ++ (decimal recording ++ (codes ",\"version\":" ++ (decimal version ++ codes "}")))))))
-reply_text (Refused code) = codes "{\"code\":\"" ++ (code ++ codes "\",\"error\":\"refused\"}")
-reply_text Syntax = codes "{\"error\":\"syntax\"}"
+reply_text (reply.Refused code) = codes "{\"code\":\"" ++ (code ++ codes "\",\"error\":\"refused\"}")
+reply_text reply.Syntax = codes "{\"error\":\"syntax\"}"
+reply_text (reply.Conflict latest) = codes "{\"error\":\"conflict\",\"latest\":" ++ (decimal latest ++ codes "}")
+reply_text (reply.Unreadable app id) = codes "{\"app\":\"" ++ (app ++ (codes "\",\"error\":\"unreadable\",\"id\":" ++ (decimal id ++ codes "}")))
 
 -- a member of an object
 abbrev pub count_text : Name × ℕ → List ℕ
@@ -28,6 +30,13 @@ abbrev pub counts_text : List (Name × ℕ) → List ℕ
 counts_text [] = []
 counts_text (x ∷ xs) = count_text x ++ more_counts xs
 
+-- the end of a run at a refused notification: the object up to the id, and the other members
+abbrev pub refused_start : Name → List ℕ → ℕ → List ℕ
+refused_start app code id = codes "{\"app\":\"" ++ (app ++ (codes "\",\"code\":\"" ++ (code ++ (codes "\",\"end\":\"refused\",\"id\":" ++ decimal id))))
+
+abbrev pub refused_end : Name → ℕ → ℕ → List ℕ
+refused_end leader recordings rule = codes ",\"leader\":\"" ++ (leader ++ (codes "\",\"recordings\":" ++ (decimal recordings ++ (codes ",\"rule\":" ++ (decimal rule ++ codes "}")))))
+
 -- the end line's text
 abbrev pub end_text : End → List ℕ
 end_text (Ok added lines) = codes "{\"added\":{" ++ (counts_text added ++ (codes "},\"end\":\"ok\",\"lines\":" ++ (decimal lines ++ codes "}")))
@@ -35,6 +44,9 @@ end_text Memory = codes "{\"end\":\"memory\"}"
 end_text Usage = codes "{\"end\":\"usage\"}"
 end_text Input = codes "{\"end\":\"input\"}"
 end_text Recorder = codes "{\"end\":\"recorder\"}"
+end_text (Refused app leader id recordings code rule) = refused_start app code id ++ refused_end leader recordings rule
+end_text (Turns app turns) = codes "{\"app\":\"" ++ (app ++ (codes "\",\"end\":\"turns\",\"turns\":" ++ (decimal turns ++ codes "}")))
+end_text (Unreadable app id) = codes "{\"app\":\"" ++ (app ++ (codes "\",\"end\":\"unreadable\",\"id\":" ++ (decimal id ++ codes "}")))
 end_text (Full app last capacity) = codes "{\"app\":\"" ++ (app ++ (codes "\",\"capacity\":" ++ (decimal capacity ++ (codes ",\"end\":\"full\",\"last\":" ++ (decimal last ++ codes "}")))))
 end_text Over = codes "{\"end\":\"over\"}"
 end_text NotBuilt = codes "{\"end\":\"not-built\"}"

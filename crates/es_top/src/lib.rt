@@ -1,7 +1,9 @@
 //! The top call: words, the run on one thread, and its end.
 #![tactic(auto)]
 
-mod answer;
+mod application;
+mod applications;
+mod faults;
 mod request;
 mod run;
 mod texts;

@@ -1,16 +1,24 @@
-ghost use Rattle.std.specs.Prelude.{◌≡◌, ◌≤◌, ◌<◌, ◌^◌, None, Some, OnOk, OnErr, IfErr, IsErrOf};
+ghost use Rattle.std.specs.Prelude.{◌≡◌, ◌<◌, ◌≤◌, ◌^◌, ◌∷◌, [], ℕ, List, Option, None, Some, OnOk, OnErr, IfErr, IsErrOf};
 ghost use Rattle.std.specs.Io.KnownBytes.{Appends};
 ghost use Rattle.es_model.specs.Causes.{HasCause, Rose};
+ghost use Rattle.es_model.specs.Lines.{Line, text as text_line};
 ghost use Rattle.es_io.specs.Front.{AppendsFront};
-ghost use Rattle.es_io.specs.LinesLeft.{lines_left, room_of, source_of, fault_of};
-ghost use Rattle.es_top.specs.Serves.{MayStopSaying, MayStopAnswering, TurnTold, AnswerTold, ServesTold};
+ghost use Rattle.es_io.specs.LinesLeft.{lines_left, unread_of, room_of, source_of, fault_of};
+ghost use Rattle.es_io.specs.Next.{EndsUnended};
+ghost use Rattle.es_top.specs.Answer.{Options};
+ghost use Rattle.es_top.specs.Sample.{bank};
+ghost use Rattle.es_top.specs.Reading.{Opens};
+ghost use Rattle.es_top.specs.Serves.{SaysIt, DrainsAfter, RepliesAndDrains, AnswersLine, TakesTurn, Begun, Serves, prompted_by, IsSaying, IsFault, IsAnswering};
 ghost use Rattle.es_top.specs.SingleThread.{as_line};
-ghost use Rattle.es_top.specs.Texts.{reply_text as text_of_reply};
+ghost use Rattle.es_top.specs.Standing.{State, Holds, Later, SameNames, SomeRose};
+ghost use Rattle.es_top.specs.Taken.{UsesTold, Taken};
 
-use crate::answer::{RunFault, answer};
+use crate::applications::Applications;
+use crate::faults::RunFault;
+use crate::request::{OpenAccount, read_opening};
 use crate::texts::{Reply, reply_text};
 use es_io::{Clock, Lines, LinesFault, Sink, Source, Step, write_all};
-use es_model::{Failed, NoMemory};
+use es_model::{Failed, NoMemory, Text};
 use es_recorder::ProcessRecorder;
 use std::alloc::Global;
 
@@ -37,10 +45,10 @@ pub fn write_line<T: Sink>(out: &mut T, line: &[u8]) -> Result<(), Failed>
 
 // Replies to a line.
 fn say<T: Sink>(alloc: Global, out: &mut T, reply: &Reply) -> Result<(), Stop>
-    ensures said { OnOk result (Appends (T.written out.old) (T.written out.new) (as_line (text_of_reply reply.now))) }
-    ensures stops { IfErr result MayStopSaying }
+    ensures said { SaysIt reply.now (T.written out.old) (T.written out.new) result }
     ensures later { T.faults out.old ≤ T.faults out.new }
     ensures sink { IsErrOf result Stop.Sink → Rose (T.faults out.old) (T.faults out.new) }
+    ensures stops { IfErr result IsSaying }
 {
     let Ok(mut text) = reply_text(alloc, reply) else {
         return Err(Stop::Fault(RunFault::NoMemory));
@@ -54,26 +62,114 @@ fn say<T: Sink>(alloc: Global, out: &mut T, reply: &Reply) -> Result<(), Stop>
     }
 }
 
+// Replies to a command, and after an accepted one lets the followers process what it added.
+fn reply_and_drain<T: Sink, R: ProcessRecorder, C: Clock>(
+    alloc: Global,
+    out: &mut T,
+    apps: &mut Applications<R>,
+    clock: &mut C,
+    prompted: &[Text],
+    reply: &Reply,
+) -> Result<(), Stop>
+    ensures replied { (options : Options) (s : State) → Holds R.history R.capacity options apps.old (C.readings clock.old) s
+        → RepliesAndDrains options s (Holds R.history R.capacity options apps.new (C.readings clock.new)) (prompted_by reply.now prompted.now) reply.now (R.history apps.new.bank.recorder) (R.history apps.new.audit.recorder)
+        (T.written out.old) (T.written out.new) result }
+    ensures same_names { SameNames apps.old apps.new }
+    ensures recorders_later { Later R.faults apps.old apps.new }
+    ensures out_later { T.faults out.old ≤ T.faults out.new }
+    ensures sink { IsErrOf result Stop.Sink → Rose (T.faults out.old) (T.faults out.new) }
+    ensures recorder { IsErrOf result (Stop.Fault RunFault.Recorder) → SomeRose R.faults apps.old apps.new }
+    ensures stops { IfErr result IsAnswering }
+{
+    match say(alloc, out, reply) {
+        Ok(()) => drain_after(alloc, apps, clock, prompted, reply),
+        Err(stop) => Err(stop),
+    }
+}
+
+// After an accepted command lets the followers process what it added.
+fn drain_after<R: ProcessRecorder, C: Clock>(
+    alloc: Global,
+    apps: &mut Applications<R>,
+    clock: &mut C,
+    prompted: &[Text],
+    reply: &Reply,
+) -> Result<(), Stop>
+    ensures drained { (options : Options) (s : State) (u : Option (List ℕ)) → Holds R.history R.capacity options apps.old (C.readings clock.old) s
+        → DrainsAfter options s (Holds R.history R.capacity options apps.new (C.readings clock.new)) (prompted_by reply.now prompted.now) (R.history apps.new.bank.recorder) (R.history apps.new.audit.recorder) u result }
+    ensures faults { IfErr result IsFault }
+    ensures same_names { SameNames apps.old apps.new }
+    ensures later { Later R.faults apps.old apps.new }
+    ensures recorder { IsErrOf result (Stop.Fault RunFault.Recorder) → SomeRose R.faults apps.old apps.new }
+{
+    match reply {
+        Reply::Accepted {
+            recording: _,
+            first: _,
+            last: _,
+            version: _,
+        } => match apps.drain(alloc, prompted, clock) {
+            Ok(()) => Ok(()),
+            Err(fault) => Err(Stop::Fault(fault)),
+        },
+        Reply::Refused { code: _ } => Ok(()),
+        Reply::Syntax => Ok(()),
+        Reply::Conflict { latest: _ } => Ok(()),
+        Reply::Unreadable { app: _, id: _ } => Ok(()),
+    }
+}
+
+// Answers a line that opens an account.
+fn answer_opening<T: Sink, R: ProcessRecorder, C: Clock>(
+    alloc: Global,
+    out: &mut T,
+    apps: &mut Applications<R>,
+    clock: &mut C,
+    prompted: &[Text],
+    line: &[u8],
+    account: OpenAccount,
+) -> Result<(), Stop>
+    requires { prompted.now ≡ bank ∷ [] }
+    ensures answered { (options : Options) (s : State) → Opens line.now account → Holds R.history R.capacity options apps.old (C.readings clock.old) s
+        → AnswersLine options s (Holds R.history R.capacity options apps.new (C.readings clock.new)) (text_line line.now) (R.history apps.new.bank.recorder) (R.history apps.new.audit.recorder)
+        (T.written out.old) (T.written out.new) result }
+    ensures same_names { SameNames apps.old apps.new }
+    ensures recorders_later { Later R.faults apps.old apps.new }
+    ensures out_later { T.faults out.old ≤ T.faults out.new }
+    ensures sink { IsErrOf result Stop.Sink → Rose (T.faults out.old) (T.faults out.new) }
+    ensures recorder { IsErrOf result (Stop.Fault RunFault.Recorder) → SomeRose R.faults apps.old apps.new }
+    ensures stops { IfErr result IsAnswering }
+{
+    match apps.bank.answer(alloc, line, account, clock) {
+        Ok(reply) => reply_and_drain(alloc, out, apps, clock, prompted, &reply),
+        Err(fault) => Err(Stop::Fault(fault)),
+    }
+}
+
 // Answers a line that isn't too long.
 fn answer_line<T: Sink, R: ProcessRecorder, C: Clock>(
     alloc: Global,
     out: &mut T,
-    recorder: &mut R,
+    apps: &mut Applications<R>,
     clock: &mut C,
+    prompted: &[Text],
     line: &[u8],
 ) -> Result<(), Stop>
-    ensures answered { AnswerTold (R.capacity recorder.old) line.now (R.history recorder.old) (C.readings clock.old) result
-        (R.history recorder.new) (C.readings clock.new) (T.written out.old) (T.written out.new) }
-    ensures stops { IfErr result MayStopAnswering }
-    ensures same_capacity { R.capacity recorder.new ≡ R.capacity recorder.old }
+    requires { prompted.now ≡ bank ∷ [] }
+    ensures answered { (options : Options) (s : State) → Holds R.history R.capacity options apps.old (C.readings clock.old) s
+        → AnswersLine options s (Holds R.history R.capacity options apps.new (C.readings clock.new)) (text_line line.now) (R.history apps.new.bank.recorder) (R.history apps.new.audit.recorder)
+        (T.written out.old) (T.written out.new) result }
+    ensures same_names { SameNames apps.old apps.new }
+    ensures recorders_later { Later R.faults apps.old apps.new }
     ensures out_later { T.faults out.old ≤ T.faults out.new }
-    ensures recorder_later { R.faults recorder.old ≤ R.faults recorder.new }
     ensures sink { IsErrOf result Stop.Sink → Rose (T.faults out.old) (T.faults out.new) }
-    ensures recorder { IsErrOf result (Stop.Fault RunFault.Recorder) → Rose (R.faults recorder.old) (R.faults recorder.new) }
+    ensures recorder { IsErrOf result (Stop.Fault RunFault.Recorder) → SomeRose R.faults apps.old apps.new }
+    ensures stops { IfErr result IsAnswering }
 {
-    match answer(alloc, recorder, clock, line) {
-        Ok(reply) => say(alloc, out, &reply),
-        Err(fault) => Err(Stop::Fault(fault)),
+    match read_opening(alloc, line) {
+        Ok(Some(account)) => answer_opening(alloc, out, apps, clock, prompted, line, account),
+        Ok(None) => say(alloc, out, &Reply::Syntax),
+        Err(NoMemory) => Err(Stop::Fault(RunFault::NoMemory)),
     }
 }
 
@@ -82,25 +178,30 @@ fn turn<S: Source, T: Sink, R: ProcessRecorder, C: Clock>(
     alloc: Global,
     lines: &mut Lines<'_, S>,
     out: &mut T,
-    recorder: &mut R,
+    apps: &mut Applications<R>,
     clock: &mut C,
+    prompted: &[Text],
 ) -> Result<(), Stop>
-    requires { fault_of lines.old ≡ None }
-    ensures turned { TurnTold (R.capacity recorder.old) (lines_left S.left lines.old) (R.history recorder.old) (C.readings clock.old) result
-        (lines_left S.left lines.new) (R.history recorder.new) (C.readings clock.new) (T.written out.old) (T.written out.new) }
+    requires clear { fault_of lines.old ≡ None }
+    requires prompted { prompted.now ≡ bank ∷ [] }
+    ensures turned { (options : Options) (s : State) (ls : List Line) → Holds R.history R.capacity options apps.old (C.readings clock.old) s → lines_left S.left lines.old ≡ Some ls
+        → TakesTurn options s (Holds R.history R.capacity options apps.new (C.readings clock.new)) ls (lines_left S.left lines.new) (R.history apps.new.bank.recorder) (R.history apps.new.audit.recorder)
+        (T.written out.old) (T.written out.new) result }
+    ensures uses { OnOk result (UsesTold (unread_of S.left lines.old) (unread_of S.left lines.new)) }
+    ensures unended { IsErrOf result Stop.Read → EndsUnended (unread_of S.left lines.old) (S.left (source_of lines.new).now) }
     ensures same_reference { (source_of lines.new).ghost_name ≡ (source_of lines.old).ghost_name }
     ensures room { OnOk result (room_of lines.new < room_of lines.old) }
     ensures clear { OnOk result (fault_of lines.new ≡ None) }
-    ensures same_capacity { R.capacity recorder.new ≡ R.capacity recorder.old }
     ensures lines_later { S.faults (source_of lines.old).now ≤ S.faults (source_of lines.new).now }
     ensures out_later { T.faults out.old ≤ T.faults out.new }
-    ensures recorder_later { R.faults recorder.old ≤ R.faults recorder.new }
+    ensures same_names { SameNames apps.old apps.new }
+    ensures recorders_later { Later R.faults apps.old apps.new }
     ensures read { IsErrOf result Stop.Read → Rose (S.faults (source_of lines.old).now) (S.faults (source_of lines.new).now) }
     ensures sink { IsErrOf result Stop.Sink → Rose (T.faults out.old) (T.faults out.new) }
-    ensures recorder { IsErrOf result (Stop.Fault RunFault.Recorder) → Rose (R.faults recorder.old) (R.faults recorder.new) }
+    ensures recorder { IsErrOf result (Stop.Fault RunFault.Recorder) → SomeRose R.faults apps.old apps.new }
 {
     match lines.next() {
-        Ok(Step::Line(line)) => answer_line(alloc, out, recorder, clock, line.as_slice()),
+        Ok(Step::Line(line)) => answer_line(alloc, out, apps, clock, prompted, line.as_slice()),
         Ok(Step::Long) => say(alloc, out, &Reply::Syntax),
         Ok(Step::End) => Err(Stop::End),
         Ok(Step::Over) => Err(Stop::Over),
@@ -109,31 +210,68 @@ fn turn<S: Source, T: Sink, R: ProcessRecorder, C: Clock>(
     }
 }
 
-/// Answers the lines one by one, and says why it stopped and how many were answered.
+// Answers the lines one by one, and says why it stopped and how many were answered.
+fn answer_all<S: Source, T: Sink, R: ProcessRecorder, C: Clock>(
+    alloc: Global,
+    lines: &mut Lines<'_, S>,
+    out: &mut T,
+    apps: &mut Applications<R>,
+    clock: &mut C,
+    prompted: &[Text],
+) -> (Stop, u64)
+    requires clear { fault_of lines.old ≡ None }
+    requires room { room_of lines.old < 2 ^ 63 }
+    requires prompted { prompted.now ≡ bank ∷ [] }
+    ensures answered { (options : Options) (s n : State) (ls : List Line) (u : Option (List ℕ)) → Begun options s n ls u (T.written out.old) → Holds R.history R.capacity options apps.old (C.readings clock.old) n
+        → lines_left S.left lines.old ≡ Some ls
+        → Serves options s (Holds R.history R.capacity options apps.new (C.readings clock.new)) ls result.0 result.1 (R.history apps.new.bank.recorder) (R.history apps.new.audit.recorder) u (T.written out.new) }
+    ensures taken { (bytes : List ℕ) → unread_of S.left lines.old ≡ Some bytes → result.0 ≡ Stop.Read → Taken bytes result.1 (S.left (source_of lines.new).now) }
+    ensures same_reference { (source_of lines.new).ghost_name ≡ (source_of lines.old).ghost_name }
+    ensures lines_later { S.faults (source_of lines.old).now ≤ S.faults (source_of lines.new).now }
+    ensures out_later { T.faults out.old ≤ T.faults out.new }
+    ensures same_names { SameNames apps.old apps.new }
+    ensures recorders_later { Later R.faults apps.old apps.new }
+    ensures read { result.0 ≡ Stop.Read → Rose (S.faults (source_of lines.old).now) (S.faults (source_of lines.new).now) }
+    ensures sink { result.0 ≡ Stop.Sink → Rose (T.faults out.old) (T.faults out.new) }
+    ensures recorder { result.0 ≡ Stop.Fault RunFault.Recorder → SomeRose R.faults apps.old apps.new }
+{
+    let mut count: u64 = 0;
+    loop {
+        match turn(alloc, lines, out, apps, clock, prompted) {
+            Ok(()) => count += 1,
+            Err(stop) => return (stop, count),
+        }
+    }
+}
+
+/// Drains all leaders, answers the lines one by one, and says why it stopped and how many were
+/// answered. The prompted leader is the bank.
 pub fn serve<S: Source, T: Sink, R: ProcessRecorder, C: Clock>(
     alloc: Global,
     lines: &mut Lines<'_, S>,
     out: &mut T,
-    recorder: &mut R,
+    apps: &mut Applications<R>,
     clock: &mut C,
+    prompted: &[Text],
 ) -> (Stop, u64)
     requires clear { fault_of lines.old ≡ None }
     requires room { room_of lines.old < 2 ^ 63 }
-    ensures served { ServesTold (R.capacity recorder.old) (lines_left S.left lines.old) (R.history recorder.old) (C.readings clock.old) result.0 result.1
-        (R.history recorder.new) (T.written out.old) (T.written out.new) }
+    requires prompted { prompted.now ≡ bank ∷ [] }
+    ensures served { (options : Options) (s : State) (ls : List Line) → Holds R.history R.capacity options apps.old (C.readings clock.old) s → lines_left S.left lines.old ≡ Some ls
+        → Serves options s (Holds R.history R.capacity options apps.new (C.readings clock.new)) ls result.0 result.1 (R.history apps.new.bank.recorder) (R.history apps.new.audit.recorder)
+        (T.written out.old) (T.written out.new) }
+    ensures taken { (bytes : List ℕ) → unread_of S.left lines.old ≡ Some bytes → result.0 ≡ Stop.Read → Taken bytes result.1 (S.left (source_of lines.new).now) }
     ensures same_reference { (source_of lines.new).ghost_name ≡ (source_of lines.old).ghost_name }
     ensures lines_later { S.faults (source_of lines.old).now ≤ S.faults (source_of lines.new).now }
     ensures out_later { T.faults out.old ≤ T.faults out.new }
-    ensures recorder_later { R.faults recorder.old ≤ R.faults recorder.new }
+    ensures same_names { SameNames apps.old apps.new }
+    ensures recorders_later { Later R.faults apps.old apps.new }
     ensures read { result.0 ≡ Stop.Read → Rose (S.faults (source_of lines.old).now) (S.faults (source_of lines.new).now) }
     ensures sink { result.0 ≡ Stop.Sink → Rose (T.faults out.old) (T.faults out.new) }
-    ensures recorder { result.0 ≡ Stop.Fault RunFault.Recorder → Rose (R.faults recorder.old) (R.faults recorder.new) }
+    ensures recorder { result.0 ≡ Stop.Fault RunFault.Recorder → SomeRose R.faults apps.old apps.new }
 {
-    let mut count: u64 = 0;
-    loop {
-        match turn(alloc, lines, out, recorder, clock) {
-            Ok(()) => count += 1,
-            Err(stop) => return (stop, count),
-        }
+    match apps.drain(alloc, prompted, clock) {
+        Ok(()) => answer_all(alloc, lines, out, apps, clock, prompted),
+        Err(fault) => (Stop::Fault(fault), 0),
     }
 }

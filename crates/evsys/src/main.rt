@@ -2,8 +2,8 @@
 #![tactic(auto)]
 
 use es_io::{MemoryDocument, StdSink, StdSource, SystemClock};
+use es_memory::MemoryStores;
 use es_model::List;
-use es_recorder::MemoryStores;
 use es_top::evsys_single;
 use std::alloc::Global;
 use std::process::ExitCode;

@@ -1,0 +1,3 @@
+mod ContentsLemmas
+mod SelectingLemmas
+mod SnapshotsLemmas
