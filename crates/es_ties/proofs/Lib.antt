@@ -1,0 +1,10 @@
+pub mod Prefixes
+pub mod Owners
+pub mod Live
+pub mod Growing
+pub mod Sharing
+pub mod Opening
+pub mod SeenLemmas
+pub mod Dealing
+pub mod Gathering
+pub mod Order
