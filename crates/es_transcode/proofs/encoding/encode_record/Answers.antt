@@ -1,0 +1,11 @@
+use Rattle.std.proofs.Common.{◌≡◌, ◌∙◌, ℕ, subst, sym, ap, Vec, Global}
+use Rattle.es_transcode.specs.RecordText.{IsRecordText}
+use Rattle.es_transcode.proofs.RecordLemmas.{record-text}
+use Rattle.es_transcode.proofs.encoding.encode_record.Goals as goal
+use Rattle.std.specs.Prelude.{string_bytes}
+
+pub returns : goal.returns
+returns c =
+    let bytes : c.from_vec.result ≡ string_bytes c.in_ok-text.text = c.from_vec.ensures ∙ ap (λ (v : Vec ℕ Global). v.items) c.into_bytes.ensures.value in
+    let text : IsRecordText c.as_slice.result.now (string_bytes c.in_ok-text.text) = record-text c.as_slice.result.now c.in_ok-members.members (string_bytes c.in_ok-text.text) c.in_ok-members.ensures c.in_ok-text.ensures.text in
+    subst (λ b. IsRecordText c.args.fields.now b) (sym bytes) (subst (λ r. IsRecordText r (string_bytes c.in_ok-text.text)) c.as_slice.ensures.value text)

@@ -1,0 +1,39 @@
+ghost use Rattle.std.specs.Prelude.{◌≡◌, ◌<◌, IfOk, IfSome, Some, List, ℕ, All, length, IsTrue, ◌↔◌};
+ghost use Rattle.uuid.specs.Text.{simple_text, lower};
+
+use es_model::{NoMemory, Text};
+use std::alloc::Global;
+use uuid::Uuid;
+
+/// The text of an id.
+pub(crate) fn text_of(alloc: Global, id: &Uuid) -> Result<Text, NoMemory>
+    ensures { IfOk result (λ t. t ≡ simple_text lower id.now) }
+{
+    let mut buffer = Uuid::encode_buffer();
+    Text::from_str(alloc, id.simple().encode_lower(&mut buffer))
+}
+
+fn is_text_of(text: &str, id: &Uuid) -> bool
+    ensures { IsTrue result ↔ (text.now ≡ simple_text lower id.now) }
+{
+    let mut buffer = Uuid::encode_buffer();
+    let written: &str = id.simple().encode_lower(&mut buffer);
+    text == written
+}
+
+/// The id that has a text.
+pub(crate) fn id_in(text: &str) -> Option<Uuid>
+    ensures text { IfSome result (λ u. text.now ≡ simple_text lower u) }
+    ensures found { (u : List ℕ) → length u ≡ 16 → All (λ b. b < 256) u → text.now ≡ simple_text lower u → result ≡ Some u }
+{
+    match Uuid::parse_str(text) {
+        Ok(id) => {
+            if is_text_of(text, &id) {
+                Some(id)
+            } else {
+                None
+            }
+        }
+        Err(_) => None,
+    }
+}
