@@ -1,4 +1,5 @@
 pub mod Causes
+pub mod Declaration
 pub mod History
 pub mod Lines
 pub mod Rising

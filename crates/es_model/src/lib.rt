@@ -15,6 +15,7 @@ mod event;
 mod expr;
 mod faults;
 mod list;
+mod lookup;
 mod memory;
 mod moment;
 mod rising;
