@@ -1,8 +1,8 @@
 -- Names, ids, and the values of fields.
-use Rattle.std.specs.Prelude.{ℕ, ◌≡◌, ◌≤◌, ◌<◌, ◌≤ℤ◌, pos, nat_le, Bool, true, false, ◌&&◌, List, length, All, FitsSigned}
+use Rattle.std.specs.Prelude.{ℕ, ◌≡◌, ◌≤◌, ◌<◌, ◌≤ℤ◌, pos, nat_le, Bool, true, false, ◌&&◌, List, [], ◌∷◌, length, All, FitsSigned}
 use Rattle.std.specs.Int.{w64}
 use Rattle.std.specs.List.{list_all}
-use Rattle.std.specs.Str.{IsUtf8}
+use Rattle.std.specs.Str.{IsUtf8, bytes_eq}
 use Rattle.es_model.specs.declared.value.Atom.{Atom}
 use Rattle.es_model.specs.declared.value.Atom.TheVariants as atom
 use Rattle.es_model.specs.declared.value.Value.{Value}
@@ -54,3 +54,10 @@ abbrev pub fits : Value → Kind → Bool
 fits (value.One a) (kind.One k) = atom_fits a k
 fits (value.List items) (kind.List k) = nat_le (length items) 256 && list_all (λ a. atom_fits a k) items
 fits v k = false
+
+-- a record has exactly these names, each with a value of its kind
+abbrev pub are_of_kinds : Record → List (Name × Kind) → Bool
+are_of_kinds [] [] = true
+are_of_kinds [] (k ∷ ks) = false
+are_of_kinds (x ∷ xs) [] = false
+are_of_kinds (x ∷ xs) (k ∷ ks) = bytes_eq x.0 k.0 && fits x.1 k.1 && are_of_kinds xs ks

@@ -38,7 +38,7 @@ pub use memory::{CallFault, Duplicate, Failed, NoMemory};
 pub use moment::Moment;
 pub use rising::Rising;
 pub use snapshot::{Snapshot, Snapshots};
-pub use value::{Atom, AtomKind, Decimal, Kind, Value, fits};
+pub use value::{Atom, AtomKind, Decimal, Kind, Value, are_of_kinds, fits};
 
 /// The items of a list value.
 pub type Atoms = List<Atom>;

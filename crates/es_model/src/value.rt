@@ -1,8 +1,8 @@
 ghost use Rattle.std.specs.Prelude.{◌≡◌, ◌≤◌, IsSome, IfSome, ◌↔◌};
 ghost use Rattle.std.specs.List.{list_all};
-ghost use Rattle.es_model.specs.Values.{fits, atom_fits};
+ghost use Rattle.es_model.specs.Values.{fits, atom_fits, are_of_kinds};
 
-use crate::{Atoms, Duplicate, Moment, NoMemory, Text};
+use crate::{Atoms, Duplicate, Fields, Kinds, Moment, NoMemory, Text};
 use std::marker::Model;
 use uuid::Uuid;
 
@@ -129,6 +129,29 @@ pub fn fits(value: &Value, kind: &Kind) -> bool
         }
         _ => false,
     }
+}
+
+fn do_values_fit(fields: &[(Text, Value)], kinds: &[(Text, Kind)]) -> bool
+    ensures { result ≡ are_of_kinds fields.now kinds.now }
+{
+    match fields {
+        [] => kinds.is_empty(),
+        [(name, value), fields @ ..] => match kinds {
+            [] => false,
+            [(wanted, kind), kinds @ ..] => {
+                name.as_str() == wanted.as_str()
+                    && fits(value, kind)
+                    && do_values_fit(fields, kinds)
+            }
+        },
+    }
+}
+
+/// Whether fields have exactly the declared names, each with a value of its kind.
+pub fn are_of_kinds(fields: &Fields, kinds: &Kinds) -> bool
+    ensures { result ≡ are_of_kinds fields.now kinds.now }
+{
+    do_values_fit(fields.as_slice(), kinds.as_slice())
 }
 
 impl Duplicate for Atom {
