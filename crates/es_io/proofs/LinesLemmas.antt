@@ -167,37 +167,46 @@ pub Part-limit : (limit now count : ℕ) (line : List ℕ) (u v w : Option (List
 Part-limit limit now count line u v w same so kept = subst (λ n. Part n count line u w) (sym same) (Part-kept limit count line u v w so kept)
 
 -- what is used of the bytes, at each exit
-uses_line : (limit count : ℕ) (line old new : List ℕ) (s : Step) → s ≡ (if nat_lt limit count then step.Long else step.Line line) → UsesLine old new → UsesKnown old new s
-uses_line limit count line old new s is used = subst (UsesKnown old new) (sym is) (by_test (nat_lt limit count))
+uses_line : (limit count : ℕ) (line old new : List ℕ) (ended : Bool) (s : Step) → s ≡ (if nat_lt limit count then step.Long else step.Line line) → UsesLine old new ended → UsesKnown old new ended s
+uses_line limit count line old new ended s is used = subst (UsesKnown old new ended) (sym is) (by_test (nat_lt limit count))
   where
-    by_test : (b : Bool) → UsesKnown old new (if b then step.Long else step.Line line)
+    by_test : (b : Bool) → UsesKnown old new ended (if b then step.Long else step.Line line)
     by_test true = used
     by_test false = used
 
-pub uses_at_break : (limit count most : ℕ) (line : List ℕ) (u v w : Option (List ℕ)) (b : ℕ) (s : Step) → b ≡ 10 → s ≡ (if nat_lt most count then step.Long else step.Line line) → Part limit count line u v → Consumes v w (b ∷ []) → Uses u w s
-uses_at_break limit count most line None v w b s ten is so goes = tt
-uses_at_break limit count most line (Some xs) None w b s ten is so goes = absurd so
-uses_at_break limit count most line (Some xs) (Some ys) None b s ten is so goes = absurd goes
-uses_at_break limit count most line (Some xs) (Some ys) (Some zs) b s ten is so goes =
-    uses_line most count line xs zs s is (so.front, so.none, inl (so.parts ∙ ap (λ (t : List ℕ). so.front ++ t) goes ∙ (λ i. so.front ++ ten i ∷ zs)))
+pub uses_at_break : (limit count most : ℕ) (line : List ℕ) (u v w : Option (List ℕ)) (b : ℕ) (ended : Bool) (s : Step) → b ≡ 10 → s ≡ (if nat_lt most count then step.Long else step.Line line) → Part limit count line u v → Consumes v w (b ∷ []) → Uses u w ended s
+uses_at_break limit count most line None v w b ended s ten is so goes = tt
+uses_at_break limit count most line (Some xs) None w b ended s ten is so goes = absurd so
+uses_at_break limit count most line (Some xs) (Some ys) None b ended s ten is so goes = absurd goes
+uses_at_break limit count most line (Some xs) (Some ys) (Some zs) b ended s ten is so goes =
+    uses_line most count line xs zs ended s is (so.front, so.none, inl (so.parts ∙ ap (λ (t : List ℕ). so.front ++ t) goes ∙ (λ i. so.front ++ ten i ∷ zs)))
 
-pub uses_at_end : (limit count most : ℕ) (line : List ℕ) (u v : Option (List ℕ)) (s : Step) → s ≡ (if nat_lt most count then step.Long else step.Line line) → Part limit count line u v → IsAtEnd v → Uses u v s
+pub uses_at_end : (limit count most : ℕ) (line : List ℕ) (u v : Option (List ℕ)) (s : Step) → s ≡ (if nat_lt most count then step.Long else step.Line line) → Part limit count line u v → IsAtEnd v → Uses u v true s
 uses_at_end limit count most line None v s is so end = tt
 uses_at_end limit count most line (Some xs) None s is so end = absurd so
 uses_at_end limit count most line (Some xs) (Some ys) s is so end =
-    uses_line most count line xs ys s is (so.front, so.none, inr (so.parts ∙ ap (λ (t : List ℕ). so.front ++ t) end ∙ append-nil so.front, end))
+    uses_line most count line xs ys true s is (so.front, so.none, inr (so.parts ∙ ap (λ (t : List ℕ). so.front ++ t) end ∙ append-nil so.front, end, refl))
 
-pub uses_at_none : (limit count : ℕ) (line : List ℕ) (u v : Option (List ℕ)) → count ≡ 0 → Part limit count line u v → IsAtEnd v → Uses u v step.End
-uses_at_none limit count line None v nothing so end = tt
-uses_at_none limit count line (Some xs) None nothing so end = absurd so
-uses_at_none limit count line (Some xs) (Some ys) nothing so end =
+pub uses_at_none : (limit count : ℕ) (line : List ℕ) (u v : Option (List ℕ)) (ended : Bool) → count ≡ 0 → Part limit count line u v → IsAtEnd v → Uses u v ended step.End
+uses_at_none limit count line None v ended nothing so end = tt
+uses_at_none limit count line (Some xs) None ended nothing so end = absurd so
+uses_at_none limit count line (Some xs) (Some ys) ended nothing so end =
     (so.parts ∙ (λ i. none_of so.front (so.size ∙ nothing) i ++ end i), end)
   where
     none_of : (zs : List ℕ) → length zs ≡ 0 → zs ≡ []
     none_of [] none = refl
     none_of (z ∷ zs) none = absurd (omega arith)
 
-pub uses_at_over : (limit count : ℕ) (line : List ℕ) (u v : Option (List ℕ)) → Part limit count line u v → Uses u v step.Over
-uses_at_over limit count line None v so = tt
-uses_at_over limit count line (Some xs) None so = absurd so
-uses_at_over limit count line (Some xs) (Some ys) so = (so.front, so.none, so.parts)
+pub uses_at_over : (limit count : ℕ) (line : List ℕ) (u v : Option (List ℕ)) (ended : Bool) → Part limit count line u v → Uses u v ended step.Over
+uses_at_over limit count line None v ended so = tt
+uses_at_over limit count line (Some xs) None ended so = absurd so
+uses_at_over limit count line (Some xs) (Some ys) ended so = (so.front, so.none, so.parts)
+
+-- at the end there is no line, and nothing is used
+pub next_at_none : (limit room : ℕ) (u : Option (List ℕ)) → IsAtEnd u → IsNext (option_map (lines_of limit room) u) (option_map (lines_of limit room) u) step.End
+next_at_none limit room None end = tt
+next_at_none limit room (Some xs) end = subst (λ (ys : List ℕ). IsFirst (lines_of limit room ys) (lines_of limit room ys) step.End) (sym end) (refl, refl)
+
+pub uses_nothing : (u : Option (List ℕ)) (ended : Bool) → IsAtEnd u → Uses u u ended step.End
+uses_nothing None ended end = tt
+uses_nothing (Some xs) ended end = (end, end)

@@ -1,7 +1,8 @@
 -- Where a reader of lines stands.
-use Rattle.std.specs.Prelude.{◌≡◌, ◌<◌, ℕ, ◌+◌, ◌-◌, List, Option}
+use Rattle.std.specs.Prelude.{◌≡◌, ◌<◌, ℕ, ◌+◌, ◌-◌, Bool, IsTrue, List, Option}
 use Rattle.std.specs.Option.{option_map}
 use Rattle.std.specs.Borrow.{MutBor}
+use Rattle.std.specs.Io.KnownBytes.{IsAtEnd}
 use Rattle.es_model.specs.Lines.{Line, lines_of}
 use Rattle.es_io.specs.declared.lines.Lines.{Lines}
 use Rattle.es_io.specs.declared.lines.LinesFault.{LinesFault}
@@ -23,6 +24,10 @@ may_take l = (l.room + 1) - (l.ahead.end - l.ahead.start)
 abbrev pub fault_of : {S : Type 0} → Lines S → Option LinesFault
 fault_of l = l.fault
 
+-- the source was found at its end
+abbrev pub has_ended : {S : Type 0} → Lines S → Bool
+has_ended l = l.ended
+
 -- the source that was lent
 abbrev pub source_of : {S : Type 0} → Lines S → MutBor S
 source_of l = l.ahead.source
@@ -34,3 +39,7 @@ lines_left left l = option_map (lines_of l.line_limit l.room) (unread left l.ahe
 -- all room is used up, and more follows
 abbrev pub IsOver : {S : Type 0} → Lines S → Type 0
 IsOver l = (l.room ≡ 0) × (l.ahead.start < l.ahead.end)
+
+-- where the end was found, no byte is left
+abbrev pub EndsRightly : {S : Type 0} → (S → Option (List ℕ)) → Lines S → Type 0
+EndsRightly left l = IsTrue (has_ended l) → IsAtEnd (unread_of left l)

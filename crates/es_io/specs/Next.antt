@@ -1,5 +1,5 @@
 -- What the next line of a source is, and what it takes.
-use Rattle.std.specs.Prelude.{◌≡◌, ◌⊎◌, ℕ, ◌+◌, ◌<◌, ◌≤◌, List, [], ◌∷◌, ◌++◌, length, Option, Some, None}
+use Rattle.std.specs.Prelude.{◌≡◌, ◌⊎◌, ℕ, ◌+◌, ◌<◌, ◌≤◌, Bool, IsTrue, List, [], ◌∷◌, ◌++◌, length, Option, Some, None}
 use Rattle.es_model.specs.Lines.{Line, text, long, over, NoLineFeed}
 use Rattle.es_io.specs.declared.lines.Step.{Step}
 use Rattle.es_io.specs.declared.lines.Step.TheVariants as step
@@ -36,18 +36,18 @@ TakesAtMost None new may still = Unit {0}
 TakesAtMost (Some old) None may still = ⊥
 TakesAtMost (Some old) (Some new) may still = length old + still ≤ length new + may
 
--- what a step used of the bytes that weren't in a line before: a line and its line feed, or a last line without one; what is passed over has no line feed
-abbrev pub UsesLine : List ℕ → List ℕ → Type 0
-UsesLine old new = (front : List ℕ) × NoLineFeed front × ((old ≡ front ++ 10 ∷ new) ⊎ ((old ≡ front) × (new ≡ [])))
+-- what a step used of the bytes that weren't in a line before: a line and its line feed, or a last line without one, after which the source is at its end; what is passed over has no line feed
+abbrev pub UsesLine : List ℕ → List ℕ → Bool → Type 0
+UsesLine old new ended = (front : List ℕ) × NoLineFeed front × ((old ≡ front ++ 10 ∷ new) ⊎ ((old ≡ front) × (new ≡ []) × IsTrue ended))
 
-abbrev pub UsesKnown : List ℕ → List ℕ → Step → Type 0
-UsesKnown old new (step.Line line) = UsesLine old new
-UsesKnown old new step.Long = UsesLine old new
-UsesKnown old new step.End = (old ≡ []) × (new ≡ [])
-UsesKnown old new step.Over = (front : List ℕ) × NoLineFeed front × (old ≡ front ++ new)
+abbrev pub UsesKnown : List ℕ → List ℕ → Bool → Step → Type 0
+UsesKnown old new ended (step.Line line) = UsesLine old new ended
+UsesKnown old new ended step.Long = UsesLine old new ended
+UsesKnown old new ended step.End = (old ≡ []) × (new ≡ [])
+UsesKnown old new ended step.Over = (front : List ℕ) × NoLineFeed front × (old ≡ front ++ new)
 
--- the same where they are told
-abbrev pub Uses : Option (List ℕ) → Option (List ℕ) → Step → Type 0
-Uses None new s = Unit {0}
-Uses (Some old) None s = ⊥
-Uses (Some old) (Some new) s = UsesKnown old new s
+-- the same where they are told; at last the source may be known to be at its end
+abbrev pub Uses : Option (List ℕ) → Option (List ℕ) → Bool → Step → Type 0
+Uses None new ended s = Unit {0}
+Uses (Some old) None ended s = ⊥
+Uses (Some old) (Some new) ended s = UsesKnown old new ended s

@@ -135,13 +135,14 @@ pub struct Lines<'a, S> {
     alloc: Global,
     line_limit: u64,
     room: u64,
+    ended: bool,
     fault: Option<LinesFault>,
     ghost bounded: { ahead.end - ahead.start ≤ room + 1 },
 }
 
 impl<'a, S: Source> Lines<'a, S> {
     ghost use Rattle.es_io.specs.Ahead.{unread};
-    ghost use Rattle.es_io.specs.LinesLeft.{lines_left, unread_of, room_of, may_take, fault_of, source_of, IsOver};
+    ghost use Rattle.es_io.specs.LinesLeft.{lines_left, unread_of, room_of, may_take, has_ended, fault_of, source_of, IsOver, EndsRightly};
     ghost use Rattle.es_io.specs.Next.{IsNext, Uses, TakesRoom, EndsUnended, TakesAtMost};
     ghost use Rattle.es_model.specs.Lines.{lines_of};
     ghost use Rattle.std.specs.Option.{option_map};
@@ -161,12 +162,14 @@ impl<'a, S: Source> Lines<'a, S> {
         ensures room { IfOk result (λ l. room_of l ≡ total_limit) }
         ensures bound { IfOk result (λ l. may_take l ≡ total_limit + 1) }
         ensures clear { IfOk result (λ l. fault_of l ≡ None) }
+        ensures ends { IfOk result (λ l. EndsRightly S.left l) }
     {
         Ok(Lines {
             ahead: Ahead::new(alloc, source)?,
             alloc,
             line_limit,
             room: total_limit,
+            ended: false,
             fault: None,
         })
     }
@@ -181,6 +184,7 @@ impl<'a, S: Source> Lines<'a, S> {
             alloc: _,
             line_limit: _,
             room: _,
+            ended: _,
             fault: _,
         } = self;
         let Ahead {
@@ -192,11 +196,15 @@ impl<'a, S: Source> Lines<'a, S> {
         source
     }
 
-    /// The next line, or that there is none. After a fault each call answers that fault.
+    /// The next line, or that there is none. After a fault each call answers that fault. Once the
+    /// source is found at its end it isn't asked again.
     pub fn next(&mut self) -> Result<Step, LinesFault>
         ensures same_reference { (source_of self.new).ghost_name ≡ (source_of self.old).ghost_name }
-        ensures next { IfOk result (IsNext (lines_left S.left self.old) (lines_left S.left self.new)) }
-        ensures uses { IfOk result (Uses (unread_of S.left self.old) (unread_of S.left self.new)) }
+
+        // The end is known only where no byte is left, from `new` on.
+        ensures ends { EndsRightly S.left self.old → EndsRightly S.left self.new }
+        ensures next { EndsRightly S.left self.old → IfOk result (IsNext (lines_left S.left self.old) (lines_left S.left self.new)) }
+        ensures uses { EndsRightly S.left self.old → IfOk result (Uses (unread_of S.left self.old) (unread_of S.left self.new) (has_ended self.new)) }
         ensures room { IfOk result (TakesRoom (room_of self.old) (room_of self.new)) }
 
         // After `Over` each call answers that.
@@ -212,6 +220,7 @@ impl<'a, S: Source> Lines<'a, S> {
 
         // No line feed is left in what was taken and not answered.
         ensures unended { IsErrOf result LinesFault.Read → fault_of self.old ≡ None → EndsUnended (unread_of S.left self.old) (S.left (source_of self.new).now) }
+        ensures not_ended { IsErrOf result LinesFault.Read → fault_of self.old ≡ None → has_ended self.old ≡ false }
         ensures later { S.faults (source_of self.old).now ≤ S.faults (source_of self.new).now }
         ensures read { IsErrOf result LinesFault.Read → fault_of self.old ≡ None → Rose (S.faults (source_of self.old).now) (S.faults (source_of self.new).now) }
     {
@@ -220,6 +229,9 @@ impl<'a, S: Source> Lines<'a, S> {
         }
         if self.room == 0 && self.ahead.start < self.ahead.end {
             return Ok(Step::Over);
+        }
+        if self.ended {
+            return Ok(Step::End);
         }
         match self.read_line() {
             Ok(step) => Ok(step),
@@ -240,6 +252,7 @@ impl<'a, S: Source> Lines<'a, S> {
         ensures bound { TakesAtMost (S.left self.old.ahead.source.now) (S.left self.new.ahead.source.now) (may_take self.old) (may_take self.new) }
         ensures line_limit { self.new.line_limit ≡ self.old.line_limit }
         ensures room { self.new.room ≡ self.old.room }
+        ensures ended { self.new.ended ≡ self.old.ended }
         ensures fault { self.new.fault ≡ self.old.fault }
         ensures cause { HasCause (S.faults self.old.ahead.source.now) (S.faults self.new.ahead.source.now) result }
     {
@@ -249,11 +262,13 @@ impl<'a, S: Source> Lines<'a, S> {
         self.ahead.fill((self.room as usize).saturating_add(1))
     }
 
-    // The next line, where nothing has failed yet.
+    // The next line, where nothing has failed yet and the end wasn't found.
     fn read_line(&mut self) -> Result<Step, LinesFault>
+        requires { self.old.ended ≡ false }
         ensures same_reference { self.new.ahead.source.ghost_name ≡ self.old.ahead.source.ghost_name }
         ensures next { IfOk result (IsNext (lines_left S.left self.old) (lines_left S.left self.new)) }
-        ensures uses { IfOk result (Uses (unread S.left self.old.ahead) (unread S.left self.new.ahead)) }
+        ensures uses { IfOk result (Uses (unread S.left self.old.ahead) (unread S.left self.new.ahead) self.new.ended) }
+        ensures ends { EndsRightly S.left self.new }
         ensures room { IfOk result (TakesRoom self.old.room self.new.room) }
         ensures over { result ≡ Ok Step.Over → IsOver self.new }
         ensures bound { TakesAtMost (S.left self.old.ahead.source.now) (S.left self.new.ahead.source.now) (may_take self.old) (may_take self.new) }
@@ -278,6 +293,7 @@ impl<'a, S: Source> Lines<'a, S> {
             }
             count += 1;
         }
+        self.ended = true;
         if count == 0 {
             return Ok(Step::End);
         }

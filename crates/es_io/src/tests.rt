@@ -159,6 +159,17 @@ fn a_failed_read_stays(rt: HostRuntime) -> Result<(), Fail> {
 }
 
 #[test]
+fn a_source_at_its_end_is_not_asked_again(rt: HostRuntime) -> Result<(), Fail> {
+    let mut ended = source(rt.alloc(), b"ab\ncd", 3)?;
+    let mut lines = Lines::new(rt.alloc(), &mut ended, 9, 9)?;
+    for want in &[Want::Line("ab"), Want::Line("cd"), Want::End, Want::End] {
+        let step = lines.next()?;
+        assert!(rt; is_wanted(&step, want));
+    }
+    Ok(())
+}
+
+#[test]
 fn reads(rt: HostRuntime) -> Result<(), Fail> {
     let mut source = source(rt.alloc(), b"abc", 2)?;
     for (result, front) in [

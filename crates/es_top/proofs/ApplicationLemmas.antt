@@ -1,5 +1,5 @@
 -- What an application adds, by the definitions of its answer and of what it follows with.
-use Rattle.std.proofs.Common.{◌≡◌, ◌⊎◌, inl, inr, ◌≤◌, ◌+◌, ◌-◌, ◌==◌, ℕ, ℤ, Bool, true, false, nat_lt, nat_le, List, [], ◌∷◌, ◌++◌, length, slice_get, if◌then◌else◌, Option, Some, None, is_some, codes, OnOk, Result, Ok, Err, refl, sym, ap, ◌∙◌, subst, arith}
+use Rattle.std.proofs.Common.{◌≡◌, inl, inr, ◌+◌, ◌-◌, ℕ, ℤ, true, false, nat_lt, nat_le, List, [], ◌∷◌, ◌++◌, length, slice_get, if◌then◌else◌, Option, Some, None, is_some, codes, OnOk, Result, Ok, Err, refl, sym, ap, ◌∙◌, subst, arith}
 use Rattle.std.proofs.lemmas.Slice.Eq.{bytes_eq-Decides}
 use Rattle.std.proofs.lemmas.Bool.Decides.{nat_tests}
 use Rattle.es_model.specs.declared.event.Recording.{Recording}
@@ -11,16 +11,16 @@ use Rattle.es_model.proofs.HistoryLemmas.{latest-append}
 use Rattle.es_io.specs.Readings.{Readings, later_readings}
 use Rattle.es_recorder.specs.declared.recorder.Inserted.{Inserted}
 use Rattle.es_recorder.specs.declared.recorder.InsertFault.{InsertFault}
-use Rattle.es_recorder.specs.Insert.{too_many, inserted}
+use Rattle.es_recorder.specs.Insert.{too_many}
 use Rattle.es_top.specs.declared.faults.RunFault.{RunFault}
 use Rattle.es_top.specs.declared.faults.RunFault.TheVariants as fault
 use Rattle.es_top.specs.declared.request.OpenAccount.{OpenAccount}
 use Rattle.es_top.specs.declared.texts.End.TheVariants.{Full, Turns}
 use Rattle.es_top.specs.declared.texts.Reply.TheVariants.{Accepted}
-use Rattle.es_top.specs.Answer.{Answer, says, accepts, ends, answer_of, accept_unless, accepted, recording_of, Followed, adds, stops, add_unless, followed_of, followed, options}
+use Rattle.es_top.specs.Answer.{Answer, says, accepts, ends, answer_of, accept_unless, recording_of, Followed, adds, stops, add_unless, followed_of, followed, options}
 use Rattle.es_top.specs.Decision.{Decision, Logs, events, refused, unreadable}
-use Rattle.es_top.specs.Leaves.{Adds, Gives, MayAdd, Leaves, opening_answer, IsAdded, MayTake, Records, Takes}
-use Rattle.es_top.specs.Sample.{sample, opened, decide_opening, decide_entry, decide_event, is_meant}
+use Rattle.es_top.specs.Leaves.{Adds, Gives, MayAdd, Leaves, opening_answer, MayTake, Records, Takes}
+use Rattle.es_top.specs.Sample.{sample, opened, decide_entry, decide_event, is_meant}
 
 may_take : (f : Followed) (h : List Recording) → MayTake f h (Some h)
 may_take (adds r) h = inl refl

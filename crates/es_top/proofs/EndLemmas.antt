@@ -1,11 +1,10 @@
 -- What the top call leaves, by how the run over the stores ended and by what was written after it.
-use Rattle.std.proofs.Common.{◌≡◌, ◌⊎◌, inl, inr, ◌<◌, ℕ, Bool, true, false, List, [], ◌∷◌, ◌++◌, length, nat_lt, if◌then◌else◌, Option, Some, None, IfOk, Result, Ok, Err, refl, sym, ap, ◌∙◌, subst, append-nil, append_assoc, arith}
+use Rattle.std.proofs.Common.{◌≡◌, ◌⊎◌, inl, inr, ℕ, true, false, List, [], ◌++◌, length, nat_lt, if◌then◌else◌, Option, Some, None, Ok, refl, sym, ap, ◌∙◌, subst, append-nil, arith}
 use Rattle.std.specs.Io.KnownBytes.{Appends}
 use Rattle.std.proofs.lemmas.Bool.Decides.{nat_tests}
 use Rattle.es_model.specs.declared.event.Recording.{Recording}
-use Rattle.es_model.specs.declared.memory.Failed.{Failed}
 use Rattle.es_model.specs.History.{Histories, log}
-use Rattle.es_model.specs.Lines.{Line, lines_of}
+use Rattle.es_model.specs.Lines.{lines_of}
 use Rattle.es_model.specs.Tracking.{tracked_in}
 use Rattle.es_model.specs.Values.{Name}
 use Rattle.es_io.specs.Front.{AppendsFront}
@@ -15,19 +14,19 @@ use Rattle.es_top.specs.declared.texts.End.TheVariants as end
 use Rattle.es_top.specs.declared.texts.Status.{Status}
 use Rattle.es_top.specs.declared.texts.Status.TheVariants as status
 use Rattle.es_top.specs.Ends.{status_of, is_fixed, code_of}
-use Rattle.es_top.specs.Ran.{ByEnd, RanBy, RanTold, IfOwn, IsNotUsage}
+use Rattle.es_top.specs.Ran.{RanBy, IfOwn, IsNotUsage}
 use Rattle.es_top.specs.Reached.{ahead}
 use Rattle.es_top.specs.Sample.{bank, audit, sample}
-use Rattle.es_top.specs.Session.{IsSession, writes_in}
+use Rattle.es_top.specs.Session.{writes_in}
 use Rattle.es_top.specs.SingleThread.{Step, Run, IsRun, start, left_by, written_by, as_line}
 use Rattle.es_top.specs.Texts.{end_text}
-use Rattle.es_top.specs.Top.{limits, most_line, most_input, Ran, RanInPart, RanIntoText, ReadTo, FollowingEnd, IsCutText, WhereTold, OfRun, OfCut, AreOccupied, AreEmpty, IfTold, IsLeft, LeavesConsistent, IsTied, EndsWith, IfRun, IsDone, IfOkStatus}
+use Rattle.es_top.specs.Top.{limits, most_line, most_input, Ran, RanInPart, RanIntoText, ReadTo, FollowingEnd, OfRun, OfCut, AreOccupied, AreEmpty, IfTold, LeavesConsistent, IsTied, EndsWith, IfRun, IsDone, IfOkStatus}
 use Rattle.es_top.proofs.ConsistentLemmas.{IsConsistent-opening}
 use Rattle.es_top.proofs.DrainLemmas.{run-exists}
 use Rattle.es_top.proofs.RunReachedLemmas.{run-reached}
 use Rattle.es_top.proofs.RunSessionLemmas.{run-consistent, run-session, run-lines}
 use Rattle.es_top.proofs.SampleLemmas.{sample-lawful}
-use Rattle.es_top.proofs.StandingLemmas.{appends_nothing, appends_then}
+use Rattle.es_top.proofs.StandingLemmas.{appends_then}
 
 -- how far a run over the stores came, and the end line that follows; or nothing was done over occupied stores
 pub record Stage (i : List ℕ) (r : Readings) (h : Histories) (new : Option Histories) (u v : Option (List ℕ)) (e : End) : Type 0 where

@@ -1,8 +1,7 @@
 -- The loop over the lines of a run, and what it leaves where it stops.
-use Rattle.std.proofs.Common.{◌≡◌, ◌⊎◌, inl, inr, ◌+◌, ℕ, List, [], ◌∷◌, ◌++◌, length, Option, Some, None, Result, Ok, Err, refl, sym, ap, ◌∙◌, subst, append-nil, append_assoc, length-append, arith}
+use Rattle.std.proofs.Common.{◌≡◌, inl, inr, ◌+◌, ℕ, List, [], ◌∷◌, ◌++◌, Option, Some, None, Result, Ok, Err, refl, sym, ap, ◌∙◌, subst, append_assoc, length-append, arith}
 use Rattle.std.specs.Io.KnownBytes.{Appends}
 use Rattle.es_model.specs.declared.event.Recording.{Recording}
-use Rattle.es_model.specs.History.{Histories}
 use Rattle.es_model.specs.Lines.{Line, text, long, over}
 use Rattle.es_io.specs.Next.{IsNext}
 use Rattle.es_io.specs.declared.lines.Step.TheVariants as step
@@ -15,11 +14,11 @@ use Rattle.es_top.specs.declared.texts.End.TheVariants as end
 use Rattle.es_top.specs.Answer.{Options}
 use Rattle.es_top.specs.Drains.{Drains}
 use Rattle.es_top.specs.Sample.{bank, sample}
-use Rattle.es_top.specs.Serves.{at_line, past_it, AnswersLine, FirstOf, Idle, TakesTurn, NoneOver, whole, served, Answered, Begun, Serves}
-use Rattle.es_top.specs.SingleThread.{Step, Goes, Run, IsRun, left_by, written_by}
-use Rattle.es_top.specs.Standing.{State, Setting, Places, stand, standing, histories_with, Came, Ended, CutShort, Faulted}
-use Rattle.es_top.proofs.SingleThreadLemmas.{Goes-none, Goes-then, Goes-end, written_by-append}
-use Rattle.es_top.proofs.StandingLemmas.{appends_nothing, appends_then, Cut-none, came_ended, came_cut, came_faulted}
+use Rattle.es_top.specs.Serves.{at_line, past_it, AnswersLine, FirstOf, TakesTurn, NoneOver, whole, served, Answered, Begun, Serves}
+use Rattle.es_top.specs.SingleThread.{Goes, written_by}
+use Rattle.es_top.specs.Standing.{State, Setting, stand, standing, Came, Ended, CutShort, Faulted}
+use Rattle.es_top.proofs.SingleThreadLemmas.{Goes-then, Goes-end, written_by-append}
+use Rattle.es_top.proofs.StandingLemmas.{appends_nothing, appends_then, Cut-none, came_cut, came_faulted}
 
 -- a line that was taken, and what answering it left
 pub turned : (o : Options) (s : State) (H : State → Type 0) (ls rest : List Line) (line : Line) (left : Option (List Line)) (b a : Option (List Recording)) (u w : Option (List ℕ)) (result : Result (Unit {0}) Stop)

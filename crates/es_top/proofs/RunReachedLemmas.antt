@@ -16,7 +16,7 @@ use Rattle.es_recorder.specs.Held.{put}
 use Rattle.es_top.specs.declared.texts.End.{End}
 use Rattle.es_top.specs.declared.texts.End.TheVariants.{Ok}
 use Rattle.es_top.specs.declared.texts.Reply.{Reply}
-use Rattle.es_top.specs.declared.texts.Reply.TheVariants.{Syntax, Conflict}
+use Rattle.es_top.specs.declared.texts.Reply.TheVariants.{Syntax, Long, Conflict}
 use Rattle.es_top.specs.Answer.{Options, Answer, says, accepts, ends, answer, differs, Followed, adds, stops, followed}
 use Rattle.es_top.specs.Decision.{Rules, logs_of}
 use Rattle.es_top.specs.Reached.{tracked_of, last_of, IsReached, ahead}
@@ -178,7 +178,7 @@ module _ (rules : Rules) (options : Options) (openings : Histories) where
     line_chases : (ls : List Line) → KeepsChase done (line_turn rules options openings at ls)
     line_chases [] = λ added count ok p declared. subst (λ h. tracked_of h p ≡ last_of h p) (sym so.left) (all_caught p declared)
     line_chases (text t ∷ rest) = request_chases rest (rules.request t)
-    line_chases (long ∷ rest) = said_chases done at so Syntax rest at.readings
+    line_chases (long ∷ rest) = said_chases done at so Long rest at.readings
     line_chases (over ∷ rest) = λ added count ok. absurd (cc ok)
 
   -- a follower records the next notification of its leader

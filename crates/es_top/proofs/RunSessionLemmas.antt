@@ -16,10 +16,10 @@ use Rattle.es_recorder.specs.Held.{put}
 use Rattle.es_top.specs.declared.texts.End.{End}
 use Rattle.es_top.specs.declared.texts.End.TheVariants.{Ok, Over}
 use Rattle.es_top.specs.declared.texts.Reply.{Reply}
-use Rattle.es_top.specs.declared.texts.Reply.TheVariants.{Syntax, Conflict}
+use Rattle.es_top.specs.declared.texts.Reply.TheVariants.{Syntax, Long, Conflict}
 use Rattle.es_top.specs.Answer.{Options, Answer, says, accepts, ends, answer, answer_of, differs, Followed, adds, stops, followed}
 use Rattle.es_top.specs.Consistent.{IsConsistent}
-use Rattle.es_top.specs.Decision.{Rules, logs_of, events}
+use Rattle.es_top.specs.Decision.{Rules, logs_of}
 use Rattle.es_top.specs.Follows.{ComesNext}
 use Rattle.es_top.specs.Lawful.{IsLawful}
 use Rattle.es_top.specs.Requests.{Request, command, no_request}
@@ -319,16 +319,16 @@ module _ (rules : Rules) (lawful : IsLawful rules) (options : Options) (openings
     asked_keeps false same = asked_turn (answer rules options.capacity app (at.histories app) (logs_of at.histories) asked id expect (first_reading at.readings)) same refl
 
   -- the next line asks nothing
-  abbrev unasked : Place → Line → Answered
-  unasked at line = record { line = line; app = None; mark = 0; at = first_reading at.readings; added = None; reply = Syntax }
+  abbrev unasked : Place → Line → Reply → Answered
+  unasked at line reply = record { line = line; app = None; mark = 0; at = first_reading at.readings; added = None; reply = reply }
 
   nothing_named : (at : Place) (b : Name) → None ≡ Some b → length (at.histories b) ≤ 0
   nothing_named at b is = absurd (cc is)
 
   request_keeps : (done : List Step) (at : Place) (so : Stands done at) (t : List ℕ) (rest : List Line) → at.lines ≡ text t ∷ rest → (q : Request) → rules.request t ≡ q → KeepsHere done (request_turn rules options at rest q)
   request_keeps done at so t rest is no_request request =
-      said_keeps done at so (text t) rest is (unasked at (text t)) at.readings refl refl
-      (subst (λ q. AnswersRequest rules options openings at.histories readings q (unasked at (text t))) (sym request) (record { unnamed = refl; nothing = refl; replied = refl }))
+      said_keeps done at so (text t) rest is (unasked at (text t) Syntax) at.readings refl refl
+      (subst (λ q. AnswersRequest rules options openings at.histories readings q (unasked at (text t) Syntax)) (sym request) (record { unnamed = refl; nothing = refl; replied = refl }))
       (nothing_named at) (λ m reading. reading)
   request_keeps done at so t rest is (command app asked id expect) request = asked_keeps done at so t rest is app asked id expect request (differs (at.histories app) id expect) refl
 
@@ -342,7 +342,7 @@ module _ (rules : Rules) (lawful : IsLawful rules) (options : Options) (openings
   })
   line_keeps done at so (text t ∷ rest) is = request_keeps done at so t rest is (rules.request t) refl
   line_keeps done at so (long ∷ rest) is =
-      said_keeps done at so long rest is (unasked at long) at.readings refl refl (record { unnamed = refl; nothing = refl; replied = refl }) (nothing_named at) (λ m reading. reading)
+      said_keeps done at so long rest is (unasked at long Long) at.readings refl refl (record { unnamed = refl; nothing = refl; replied = refl }) (nothing_named at) (λ m reading. reading)
   line_keeps done at so (over ∷ rest) is = stands_ends done at Over so (λ added count ok. absurd (cc ok))
 
   -- a follower records the next notification of its leader

@@ -1,16 +1,14 @@
 -- Lines of a run over the sample, one after another.
-use Rattle.std.proofs.Common.{◌≡◌, ◌⊎◌, inl, inr, ◌+◌, ℕ, Bool, true, false, List, [], ◌∷◌, ◌++◌, length, if◌then◌else◌, Option, Some, None, Result, Ok, Err, OnOk, OnErr, IfErr, refl, sym, ap, ◌∙◌, subst, append-nil, append_assoc, arith}
+use Rattle.std.proofs.Common.{◌≡◌, inl, inr, ◌+◌, ℕ, Bool, true, false, List, [], ◌∷◌, ◌++◌, length, if◌then◌else◌, Option, Some, None, Result, Ok, Err, refl, sym, ap, ◌∙◌, subst, append-nil}
 use Rattle.std.specs.Str.{bytes_eq}
 use Rattle.std.proofs.lemmas.Slice.Eq.{bytes_eq-Decides}
 use Rattle.std.specs.Io.KnownBytes.{Appends}
 use Rattle.es_model.specs.declared.event.Recording.{Recording}
-use Rattle.es_model.specs.declared.event.StoredEvent.{StoredEvent}
 use Rattle.es_model.specs.declared.event.Cause.TheVariants.{Command}
 use Rattle.es_model.specs.History.{Histories, log}
-use Rattle.es_model.specs.Lines.{Line, text, long, over}
-use Rattle.es_model.specs.Values.{Name, Id}
-use Rattle.es_io.specs.Front.{AppendsFront}
-use Rattle.es_io.specs.Readings.{Readings, first_reading, later_readings}
+use Rattle.es_model.specs.Lines.{Line, text, long}
+use Rattle.es_model.specs.Values.{Name}
+use Rattle.es_io.specs.Readings.{first_reading, later_readings}
 use Rattle.es_recorder.specs.Held.{put}
 use Rattle.es_recorder.specs.declared.recorder.InsertFault.{InsertFault}
 use Rattle.es_recorder.specs.Insert.{too_many}
@@ -23,19 +21,19 @@ use Rattle.es_top.specs.declared.texts.End.{End}
 use Rattle.es_top.specs.declared.texts.End.TheVariants.{Refused, Turns, Unreadable, Full}
 use Rattle.es_top.specs.declared.texts.Reply.{Reply}
 use Rattle.es_top.specs.declared.texts.Reply.TheVariants as reply
-use Rattle.es_top.specs.Answer.{Options, Answer, says, accepts, ends, answer_of, accept_unless, accepted, recording_of}
+use Rattle.es_top.specs.Answer.{Options, Answer, says, accepts, ends, answer_of, accept_unless, recording_of}
 use Rattle.es_top.specs.Decision.{Decision, events, refused, unreadable}
 use Rattle.es_top.specs.Drains.{Drains}
 use Rattle.es_top.specs.Leaves.{opening_answer, Gives, MayAdd, Leaves}
 use Rattle.es_top.specs.Reading.{Opens}
 use Rattle.es_top.specs.Requests.{no_request}
-use Rattle.es_top.specs.Sample.{bank, audit, sample, sample_request, decide_opening, opened}
-use Rattle.es_top.specs.Serves.{SaysIt, IsSaying, IsFault, at_line, past_it, after_reply, prompted_by, DrainsAfter, Still, Replied, RepliesAndDrains, AnswersLine}
-use Rattle.es_top.specs.SingleThread.{Place, Outcome, Turn, finished, goes_on, turn_at, request_turn, command_turn, only_says, Step, records, writes, Run, IsRun, Goes, steps_of, left_by, written_by, as_line}
-use Rattle.es_top.specs.Standing.{State, Setting, Places, standing, stand, histories_with, Came, Ended, CutShort, Faulted, Cut}
+use Rattle.es_top.specs.Sample.{bank, audit, sample, sample_request, decide_opening}
+use Rattle.es_top.specs.Serves.{SaysIt, at_line, past_it, after_reply, prompted_by, DrainsAfter, Still, RepliesAndDrains, AnswersLine}
+use Rattle.es_top.specs.SingleThread.{Outcome, goes_on, turn_at, request_turn, command_turn, only_says, Step, records, writes, steps_of, left_by, written_by, as_line}
+use Rattle.es_top.specs.Standing.{State, Setting, standing, histories_with, Came, Ended, CutShort, Faulted}
 use Rattle.es_top.specs.Texts.{reply_text}
 use Rattle.es_top.proofs.SingleThreadLemmas.{Goes-none, Goes-one, run-finished}
-use Rattle.es_top.proofs.StandingLemmas.{appends_nothing, front_none, Cut-none, Cut-turn, came_then, came_faulted}
+use Rattle.es_top.proofs.StandingLemmas.{appends_nothing, Cut-none, Cut-turn, came_then, came_faulted}
 
 -- the same part of a run, one answered line later
 abbrev past : Setting → Setting
@@ -168,18 +166,18 @@ line_said o s next H line told b a u w result p q turn so =
     line_replied o s next H line [] told (only_says told) [] b a u w turn refl (λ t. refl) refl (λ σ i. histories_with σ.openings (sym p i) (sym q i)) result so
 
 -- a line that asks nothing, or is too long
-pub said_syntax : (o : Options) (s : State) (H : State → Type 0) (line : Line) (b a : Option (List Recording)) (u w : Option (List ℕ)) (result : Result (Unit {0}) Stop)
-    → ((σ : Setting) → turn_at sample o σ.openings (at_line s line σ) ≡ goes_on (only_says reply.Syntax) (after_reply s [] σ)) → SaysIt reply.Syntax u w result → H s → b ≡ Some s.bank_history → a ≡ Some s.audit_history → AnswersLine o s H line b a u w result
-said_syntax o s H line b a u w result turn said held p q = line_said o s s H line reply.Syntax b a u w result refl refl turn (by_result result said)
+pub said_only : (o : Options) (s : State) (H : State → Type 0) (line : Line) (told : Reply) (b a : Option (List Recording)) (u w : Option (List ℕ)) (result : Result (Unit {0}) Stop)
+    → prompted_by told [] ≡ [] → ((σ : Setting) → turn_at sample o σ.openings (at_line s line σ) ≡ goes_on (only_says told) (after_reply s [] σ)) → SaysIt told u w result → H s → b ≡ Some s.bank_history → a ≡ Some s.audit_history → AnswersLine o s H line b a u w result
+said_only o s H line told b a u w result quiet turn said held p q = line_said o s s H line told b a u w result refl refl turn (by_result result said)
   where
-    by_result : (r : Result (Unit {0}) Stop) → SaysIt reply.Syntax u w r → RepliesAndDrains o s H [] reply.Syntax b a u w r
-    by_result (Ok y) x = record { middle = w; written = x; later = not_drained o s H [] reply.Syntax w refl held }
-    by_result (Err why) x = unreplied o s H [] reply.Syntax b a u w why x p q
+    by_result : (r : Result (Unit {0}) Stop) → SaysIt told u w r → RepliesAndDrains o s H [] told b a u w r
+    by_result (Ok y) x = record { middle = w; written = x; later = subst (λ names. Came o (after_reply s names) H w w past_it) quiet (not_drained o s H [] told w quiet held) }
+    by_result (Err why) x = unreplied o s H [] told b a u w why x p q
 
 pub nothing_asked : (o : Options) (s : State) (t : List ℕ) → sample_request t ≡ no_request → (σ : Setting) → turn_at sample o σ.openings (at_line s (text t) σ) ≡ goes_on (only_says reply.Syntax) (after_reply s [] σ)
 nothing_asked o s t is σ = ap (request_turn sample o (at_line s (text t) σ) σ.lines) is
 
-pub too_long : (o : Options) (s : State) → (σ : Setting) → turn_at sample o σ.openings (at_line s long σ) ≡ goes_on (only_says reply.Syntax) (after_reply s [] σ)
+pub too_long : (o : Options) (s : State) → (σ : Setting) → turn_at sample o σ.openings (at_line s long σ) ≡ goes_on (only_says reply.Long) (after_reply s [] σ)
 too_long o s σ = refl
 
 -- the bank's answer was given, and took a reading

@@ -1,8 +1,7 @@
 -- Laws of runs: turns one after another, and what steps leave and write.
-use Rattle.std.proofs.Common.{◌≡◌, ℕ, zero, suc, ◌+◌, Bool, true, false, List, [], ◌∷◌, ◌++◌, Option, Some, None, slice_get, if◌then◌else◌, refl, sym, ap, ◌∙◌, subst, append-nil, append_assoc, arith}
+use Rattle.std.proofs.Common.{◌≡◌, ℕ, zero, suc, ◌+◌, true, false, List, [], ◌∷◌, ◌++◌, Option, Some, None, slice_get, if◌then◌else◌, refl, sym, ap, ◌∙◌, subst, append-nil, append_assoc, arith}
 use Rattle.std.specs.Option.{option_map}
 use Rattle.es_model.specs.declared.event.StoredEvent.{StoredEvent}
-use Rattle.es_model.specs.declared.event.Recording.{Recording}
 use Rattle.es_model.specs.History.{Histories, log, latest}
 use Rattle.es_model.specs.Lines.{Line, text, long, over}
 use Rattle.es_model.specs.Tracking.{tracked_in}
@@ -14,7 +13,7 @@ use Rattle.es_top.specs.declared.texts.Reply.TheVariants.{Conflict}
 use Rattle.es_top.specs.Answer.{Options, Answer, says, accepts, ends, answer, differs, Followed, adds, stops, followed}
 use Rattle.es_top.specs.Decision.{Rules, logs_of}
 use Rattle.es_top.specs.Requests.{Request, command, no_request}
-use Rattle.es_top.specs.SingleThread.{Place, Outcome, Turn, finished, goes_on, turn_at, turn_of, line_turn, request_turn, command_turn, pair_turn, next_turn, followed_turn, past_line, only_says, Step, records, writes, Run, steps_of, after, go_on, run_within, IsRun, left_by, written_by, as_line, Goes}
+use Rattle.es_top.specs.SingleThread.{Place, Outcome, Turn, finished, goes_on, turn_at, turn_of, line_turn, request_turn, command_turn, next_turn, followed_turn, past_line, only_says, Step, records, writes, Run, steps_of, after, go_on, run_within, IsRun, left_by, written_by, as_line, Goes}
 
 -- where one part comes to an end alike, so does the whole
 alike : (o p : Option Run) (k : Run → Run) (d : Run) → ((x : Run) → o ≡ Some x → p ≡ Some x) → option_map k o ≡ Some d → option_map k p ≡ Some d

@@ -1,5 +1,5 @@
 -- Parts of a run over the sample, one after another, and the turns of a drain.
-use Rattle.std.proofs.Common.{◌≡◌, ◌<◌, ◌≤◌, suc, drop, get_or, drop-cons, ◌⊎◌, inl, inr, ◌+◌, ◌-◌, ℕ, ℤ, Bool, true, false, nat_le, List, [], ◌∷◌, ◌++◌, slice_get, if◌then◌else◌, Option, Some, None, Result, Ok, Err, length, refl, sym, ap, ◌∙◌, subst, append-nil, append_assoc, length-append, arith}
+use Rattle.std.proofs.Common.{◌≡◌, ◌<◌, ◌≤◌, suc, drop, get_or, drop-cons, inl, inr, ◌+◌, ◌-◌, ℕ, ℤ, Bool, true, false, nat_le, List, [], ◌∷◌, ◌++◌, slice_get, if◌then◌else◌, Option, Some, None, Result, Ok, Err, length, refl, sym, ap, ◌∙◌, subst, append-nil, append_assoc, length-append, arith}
 use Rattle.std.specs.Str.{bytes_eq}
 use Rattle.std.proofs.lemmas.List.{drop_all}
 use Rattle.std.proofs.lemmas.Slice.Eq.{bytes_eq-Decides}
@@ -27,9 +27,9 @@ use Rattle.es_top.specs.Decision.{Logs, logs_of}
 use Rattle.es_top.specs.Drains.{trying, FindsNext, MayFailToRead, FollowsOne, FollowsAll, DrainsLeader}
 use Rattle.es_top.specs.Leaves.{MayTake, Processes}
 use Rattle.es_top.specs.Sample.{bank, audit, sample, decide_entry}
-use Rattle.es_top.specs.SingleThread.{Place, Outcome, Turn, finished, goes_on, turn_at, next_turn, followed_turn, prompt, only_adds, does_nothing, Step, records, writes, Run, IsRun, Goes, steps_of, after, left_by, written_by}
-use Rattle.es_top.specs.Standing.{State, Setting, Places, standing, histories_with, Came, Ended, CutShort, Faulted, Cut, AreFirst, IsFrontOf}
-use Rattle.es_top.proofs.SingleThreadLemmas.{Goes-none, Goes-one, Goes-then, Goes-run, Goes-after, left_by-append, written_by-append, run-finished, run-unique}
+use Rattle.es_top.specs.SingleThread.{Place, Outcome, finished, goes_on, turn_at, next_turn, followed_turn, prompt, only_adds, does_nothing, Step, records, writes, Run, Goes, steps_of, left_by, written_by}
+use Rattle.es_top.specs.Standing.{State, Setting, Places, standing, histories_with, Came, Ended, CutShort, Faulted, Cut, IsFrontOf}
+use Rattle.es_top.proofs.SingleThreadLemmas.{Goes-none, Goes-one, Goes-then, Goes-run, Goes-after, left_by-append, written_by-append, run-finished}
 
 -- the two histories of a run
 bank_of : (o : Histories) (b a : List Recording) → histories_with o b a bank ≡ b

@@ -1,8 +1,8 @@
 -- Lines that were taken whole.
-use Rattle.std.proofs.Common.{◌≡◌, ◌⊎◌, inl, inr, ◌<◌, ◌+◌, ◌-◌, ◌==◌, ◌≢◌, ℕ, zero, suc, Bool, true, false, nat_lt, List, [], ◌∷◌, ◌++◌, length, if◌then◌else◌, Option, Some, None, Result, Ok, Err, OnOk, refl, sym, ap, ◌∙◌, subst, append-nil, append_assoc, length-append, arith}
+use Rattle.std.proofs.Common.{◌≡◌, ◌⊎◌, inl, inr, ◌+◌, ◌-◌, ◌==◌, ◌≢◌, ℕ, Bool, IsTrue, true, false, nat_lt, List, [], ◌∷◌, ◌++◌, length, if◌then◌else◌, Option, Some, None, Result, Ok, Err, OnOk, refl, sym, ap, ◌∙◌, subst, append-nil, append_assoc, length-append, arith}
 use Rattle.std.specs.Option.{option_map}
 use Rattle.std.proofs.lemmas.Bool.Decides.{nat_tests}
-use Rattle.es_model.specs.Lines.{Line, text, long, over, in_front, pieces_of, line_of, lines_of_pieces, NoLineFeed, text_of}
+use Rattle.es_model.specs.Lines.{Line, text, long, over, in_front, pieces_of, line_of, lines_of_pieces, NoLineFeed}
 use Rattle.es_io.specs.Next.{IsNext, Uses, UsesLine, EndsUnended}
 use Rattle.es_io.specs.declared.lines.Step.TheVariants as step
 use Rattle.es_top.specs.Serves.{NoneOver}
@@ -55,12 +55,12 @@ pieces_after answered more (inl none) = subst (λ a. pieces_of (a ++ more) ≡ p
 pieces_after answered more (inr ends) = subst (λ a. pieces_of (a ++ more) ≡ pieces_of a ++ pieces_of more) (sym ends.1) (ended_pieces ends.0 more)
 
 -- before the first line
-pub counted_none : (bytes : List ℕ) (left : Option (List ℕ)) → left ≡ Some bytes → Counted bytes 0 left
-counted_none bytes left is = record { answered = []; rest = bytes; left_is = is; parts = refl; pieces = refl; number = refl; ends = inl (inl refl) }
+pub counted_none : (bytes : List ℕ) (left : Option (List ℕ)) (ended : Bool) → left ≡ Some bytes → Counted bytes 0 left ended
+counted_none bytes left ended is = record { answered = []; rest = bytes; left_is = is; parts = refl; pieces = refl; number = refl; ends = inl (inl refl) }
 
 -- one line more
-module _ (bytes : List ℕ) (count : ℕ) (before : Option (List ℕ)) (x : Counted bytes count before) where
-  by_feed : (front rest : List ℕ) → NoLineFeed front → x.rest ≡ front ++ 10 ∷ rest → EndsLine x.answered → Counted bytes (count + 1) (Some rest)
+module _ (bytes : List ℕ) (count : ℕ) (before : Option (List ℕ)) (was now : Bool) (x : Counted bytes count before was) where
+  by_feed : (front rest : List ℕ) → NoLineFeed front → x.rest ≡ front ++ 10 ∷ rest → EndsLine x.answered → Counted bytes (count + 1) (Some rest) now
   by_feed front rest none is whole =
       let line = front ++ 10 ∷ [] in
       let split : x.rest ≡ line ++ rest = is ∙ sym (append_assoc front (10 ∷ []) rest) in
@@ -76,8 +76,8 @@ module _ (bytes : List ℕ) (count : ℕ) (before : Option (List ℕ)) (x : Coun
         ends = inl (inr (x.answered ++ front, sym (append_assoc x.answered front (10 ∷ []))));
       }
 
-  by_end : (b : ℕ) (front : List ℕ) → NoLineFeed (b ∷ front) → x.rest ≡ b ∷ front → EndsLine x.answered → Counted bytes (count + 1) (Some [])
-  by_end b front none is whole =
+  by_end : (b : ℕ) (front : List ℕ) → NoLineFeed (b ∷ front) → x.rest ≡ b ∷ front → IsTrue now → EndsLine x.answered → Counted bytes (count + 1) (Some []) now
+  by_end b front none is ended whole =
       let more : pieces_of (x.answered ++ b ∷ front) ≡ pieces_of x.answered ++ (b ∷ front) ∷ [] = pieces_after x.answered (b ∷ front) whole ∙ ap (λ (ps : List (List ℕ)). pieces_of x.answered ++ ps) (pieces_last b front none) in
       record {
         answered = x.answered ++ b ∷ front;
@@ -86,23 +86,28 @@ module _ (bytes : List ℕ) (count : ℕ) (before : Option (List ℕ)) (x : Coun
         parts = x.parts ∙ ap (λ (r : List ℕ). x.answered ++ r) is ∙ sym (append-nil (x.answered ++ b ∷ front));
         pieces = ap pieces_of (x.parts ∙ ap (λ (r : List ℕ). x.answered ++ r) is) ∙ sym (append-nil (pieces_of (x.answered ++ b ∷ front)));
         number = ap length more ∙ omega (arith, x.number, length-append (pieces_of x.answered) ((b ∷ front) ∷ []));
-        ends = inr refl;
+        ends = inr (refl, ended);
       }
 
-  by_use : (new : List ℕ) → (x.rest ≡ [] → ⊥) → UsesLine x.rest new → EndsLine x.answered ⊎ (x.rest ≡ []) → Counted bytes (count + 1) (Some new)
-  by_use new some used (inr nothing) = absurd (some nothing)
+  by_use : (new : List ℕ) → (x.rest ≡ [] → ⊥) → UsesLine x.rest new now → EndsLine x.answered ⊎ ((x.rest ≡ []) × IsTrue was) → Counted bytes (count + 1) (Some new) now
+  by_use new some used (inr nothing) = absurd (some nothing.0)
   by_use new some (front, none, inl is) (inl whole) = by_feed front new none is whole
   by_use new some ([], none, inr is) (inl whole) = absurd (some is.0)
-  by_use new some (b ∷ front, none, inr is) (inl whole) = subst (λ t. Counted bytes (count + 1) (Some t)) (sym is.1) (by_end b front none is.0 whole)
+  by_use new some (b ∷ front, none, inr is) (inl whole) = subst (λ t. Counted bytes (count + 1) (Some t) now) (sym is.1) (by_end b front none is.0 is.2 whole)
 
-  pub counted_more : (after : Option (List ℕ)) → UsesTold before after → Counted bytes (count + 1) after
-  counted_more after used = by_told after (subst (λ o. UsesTold o after) x.left_is used)
+  pub counted_more : (after : Option (List ℕ)) → UsesTold before after now → Counted bytes (count + 1) after now
+  counted_more after used = by_told after (subst (λ o. UsesTold o after now) x.left_is used)
     where
-      by_told : (o : Option (List ℕ)) → UsesTold (Some x.rest) o → Counted bytes (count + 1) o
+      by_told : (o : Option (List ℕ)) → UsesTold (Some x.rest) o now → Counted bytes (count + 1) o now
       by_told None u = absurd u
       by_told (Some new) u = by_use new u.0 u.1 x.ends
 
-  -- a read failed
+-- a read failed, and the source wasn't known to be at its end
+module _ (bytes : List ℕ) (count : ℕ) (before : Option (List ℕ)) (x : Counted bytes count before false) where
+  whole_lines : EndsLine x.answered ⊎ ((x.rest ≡ []) × IsTrue false) → EndsLine x.answered
+  whole_lines (inl whole) = whole
+  whole_lines (inr known) = absurd (cc known.1)
+
   pub counted_taken : (left : Option (List ℕ)) → EndsUnended before left → Taken bytes count left
   counted_taken left ended = by_told left (subst (λ o. EndsUnended o left) x.left_is ended)
     where
@@ -117,7 +122,7 @@ module _ (bytes : List ℕ) (count : ℕ) (before : Option (List ℕ)) (x : Coun
         unended = none;
         pieces = x.pieces ∙ ap (λ (r : List ℕ). pieces_of x.answered ++ pieces_of r) is;
         number = x.number;
-        ends = subst (λ r. EndsLine x.answered ⊎ (r ≡ [])) is x.ends;
+        ends = whole_lines x.ends;
       }
 
 by_room : (b : Bool) (line : Line) (after taken : List Line) (first : Line) (others wanted : List Line) → (line ≡ over → ⊥) → (after ≡ others → taken ≡ wanted) → line ∷ after ≡ (if b then over ∷ [] else first ∷ others)
@@ -142,14 +147,14 @@ on_ok (Ok x) p = p
 on_ok (Err e) p = tt
 
 -- a turn used a line
-pub line_used : (f : List ℕ → List Line) → f [] ≡ [] → (old new : Option (List ℕ)) (left : Option (List Line)) (t : List ℕ) → IsNext (option_map f old) left (step.Line t) → Uses old new (step.Line t) → UsesTold old new
-line_used f none None new left t next so = tt
-line_used f none (Some old) None left t next so = so
-line_used f none (Some old) (Some new) None t next so = absurd next
-line_used f none (Some old) (Some new) (Some after) t next so = (λ is. let clash : [] ≡ text t ∷ after = sym none ∙ ap f (sym is) ∙ next in absurd (cc clash), so)
+pub line_used : (f : List ℕ → List Line) → f [] ≡ [] → (old new : Option (List ℕ)) (ended : Bool) (left : Option (List Line)) (t : List ℕ) → IsNext (option_map f old) left (step.Line t) → Uses old new ended (step.Line t) → UsesTold old new ended
+line_used f none None new ended left t next so = tt
+line_used f none (Some old) None ended left t next so = so
+line_used f none (Some old) (Some new) ended None t next so = absurd next
+line_used f none (Some old) (Some new) ended (Some after) t next so = (λ is. let clash : [] ≡ text t ∷ after = sym none ∙ ap f (sym is) ∙ next in absurd (cc clash), so)
 
-pub long_used : (f : List ℕ → List Line) → f [] ≡ [] → (old new : Option (List ℕ)) (left : Option (List Line)) → IsNext (option_map f old) left step.Long → Uses old new step.Long → UsesTold old new
-long_used f none None new left next so = tt
-long_used f none (Some old) None left next so = so
-long_used f none (Some old) (Some new) None next so = absurd next
-long_used f none (Some old) (Some new) (Some after) next so = (λ is. let clash : [] ≡ long ∷ after = sym none ∙ ap f (sym is) ∙ next in absurd (cc clash), so)
+pub long_used : (f : List ℕ → List Line) → f [] ≡ [] → (old new : Option (List ℕ)) (ended : Bool) (left : Option (List Line)) → IsNext (option_map f old) left step.Long → Uses old new ended step.Long → UsesTold old new ended
+long_used f none None new ended left next so = tt
+long_used f none (Some old) None ended left next so = so
+long_used f none (Some old) (Some new) ended None next so = absurd next
+long_used f none (Some old) (Some new) ended (Some after) next so = (λ is. let clash : [] ≡ long ∷ after = sym none ∙ ap f (sym is) ∙ next in absurd (cc clash), so)

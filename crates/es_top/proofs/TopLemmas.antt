@@ -1,5 +1,5 @@
 -- From serving lines to a run over stores, and to its end line.
-use Rattle.std.proofs.Common.{◌≡◌, ◌⊎◌, inl, inr, ◌<◌, ◌-◌, ℕ, Bool, true, false, List, [], ◌∷◌, ◌++◌, length, Option, Some, None, IfSome, IfOk, Result, Ok, Err, if◌then◌else◌, refl, sym, ap, ◌∙◌, subst, append-nil, append_assoc, arith}
+use Rattle.std.proofs.Common.{◌≡◌, inl, inr, ◌-◌, ℕ, Bool, true, false, List, [], ◌∷◌, ◌++◌, length, Option, Some, None, IfSome, IfOk, Result, Ok, Err, if◌then◌else◌, refl, sym, ap, ◌∙◌, subst, append-nil, arith}
 use Rattle.std.specs.Str.{bytes_eq}
 use Rattle.std.proofs.lemmas.Slice.Eq.{bytes_eq-Decides}
 use Rattle.std.specs.Io.KnownBytes.{Appends}
@@ -12,18 +12,16 @@ use Rattle.es_io.specs.Readings.{Readings}
 use Rattle.es_recorder.specs.Held.{put, SameElsewhere, Closes, ClosesTold}
 use Rattle.es_top.specs.declared.faults.RunFault.{RunFault}
 use Rattle.es_top.specs.declared.faults.RunFault.TheVariants as fault
-use Rattle.es_top.specs.declared.run.Stop.{Stop}
-use Rattle.es_top.specs.declared.run.Stop.TheVariants as stop
 use Rattle.es_top.specs.declared.texts.End.{End}
 use Rattle.es_top.specs.declared.texts.End.TheVariants as end
 use Rattle.es_top.specs.Faults.{end_of}
-use Rattle.es_top.specs.Ran.{state_of, IsRunOver, PartRun, WholeRun, ByEnd, Runs, Untouched, RunsOrNot, CountsTold, IsOccupiedTest, SameBesides, RanBy, IfOwn, all_lines, ReadRun}
+use Rattle.es_top.specs.Ran.{state_of, IsRunOver, PartRun, WholeRun, Runs, Untouched, RunsOrNot, CountsTold, SameBesides, RanBy, IfOwn, all_lines}
 use Rattle.es_top.specs.Sample.{bank, audit, sample}
-use Rattle.es_top.specs.Serves.{whole, served, Answered, Serves}
+use Rattle.es_top.specs.Serves.{whole, served, Answered}
 use Rattle.es_top.specs.SingleThread.{finished, added_counts, Step, Run, IsRun, Goes, start, left_by, written_by}
-use Rattle.es_top.specs.Standing.{State, Setting, stand, histories_with, Came, Ended, CutShort, CutInText, Faulted, AreFirst}
+use Rattle.es_top.specs.Standing.{State, Setting, stand, histories_with, Came, Ended, CutShort, CutInText, Faulted}
 use Rattle.es_top.specs.Taken.{Taken}
-use Rattle.es_top.specs.Top.{limits, most_line, most_input, Ran, RanInPart, RanIntoText, AreEmpty, AreOccupied, IfTold, IsLeft}
+use Rattle.es_top.specs.Top.{limits, most_line, most_input, Ran, RanInPart, RanIntoText, AreEmpty, IfTold, IsLeft}
 use Rattle.es_top.proofs.DrainLemmas.{run-exists}
 use Rattle.es_top.proofs.SingleThreadLemmas.{Goes-end, Goes-after}
 use Rattle.es_top.proofs.StandingLemmas.{appends_nothing, front_none}

@@ -13,10 +13,9 @@ use Rattle.es_top.specs.declared.application.Processed.TheVariants.{Recorded, Sk
 use Rattle.es_top.specs.declared.faults.RunFault.{RunFault}
 use Rattle.es_top.specs.declared.faults.RunFault.TheVariants as fault
 use Rattle.es_top.specs.declared.request.OpenAccount.{OpenAccount}
-use Rattle.es_top.specs.declared.texts.End.TheVariants as end
 use Rattle.es_top.specs.declared.texts.Reply.{Reply}
 use Rattle.es_top.specs.Answer.{Answer, says, accepts, ends, answer_of, Followed, adds, stops}
-use Rattle.es_top.specs.Decision.{Decision, events, refused}
+use Rattle.es_top.specs.Decision.{events, refused}
 use Rattle.es_top.specs.Faults.{ByFault}
 use Rattle.es_top.specs.Sample.{decide_opening, decide_event}
 

@@ -1,12 +1,11 @@
 -- What answering lines over the sample leaves.
-use Rattle.std.specs.Prelude.{◌≡◌, ◌⊎◌, ℕ, ◌+◌, List, [], ◌∷◌, ◌++◌, length, Option, Some, None, Result, Ok, Err}
+use Rattle.std.specs.Prelude.{◌≡◌, ◌⊎◌, ℕ, ◌+◌, List, [], ◌∷◌, ◌++◌, length, Option, Some, Result, Ok, Err}
 use Rattle.std.specs.Io.KnownBytes.{Appends}
 use Rattle.es_model.specs.declared.event.Recording.{Recording}
 use Rattle.es_model.specs.History.{Histories}
 use Rattle.es_model.specs.Lines.{Line, over}
 use Rattle.es_model.specs.Values.{Name}
 use Rattle.es_io.specs.Front.{AppendsFront}
-use Rattle.es_top.specs.declared.faults.RunFault.{RunFault}
 use Rattle.es_top.specs.declared.faults.RunFault.TheVariants as fault
 use Rattle.es_top.specs.declared.run.Stop.{Stop}
 use Rattle.es_top.specs.declared.run.Stop.TheVariants as stop
@@ -16,7 +15,7 @@ use Rattle.es_top.specs.declared.texts.End.TheVariants as end
 use Rattle.es_top.specs.Answer.{Options}
 use Rattle.es_top.specs.Sample.{bank, sample}
 use Rattle.es_top.specs.SingleThread.{Step, Goes, written_by, as_line}
-use Rattle.es_top.specs.Standing.{State, Setting, Places, stand, Came, Ended, CutInText, Faulted}
+use Rattle.es_top.specs.Standing.{State, Places, stand, Came, Ended, CutInText, Faulted}
 use Rattle.es_top.specs.Texts.{reply_text}
 
 -- a reply was written as a line, or a front of it where the sink failed, or nothing for want of memory
@@ -70,6 +69,7 @@ abbrev pub prompted_by : Reply → List Name → List Name
 prompted_by (reply.Accepted recording first last version) prompted = prompted
 prompted_by (reply.Refused code) prompted = []
 prompted_by reply.Syntax prompted = []
+prompted_by reply.Long prompted = []
 prompted_by (reply.Conflict latest) prompted = []
 prompted_by (reply.Unreadable app id) prompted = []
 

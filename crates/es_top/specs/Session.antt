@@ -9,7 +9,7 @@ use Rattle.es_model.specs.Lines.{Line, text, long, over}
 use Rattle.es_model.specs.Values.{Name, Id}
 use Rattle.es_io.specs.Readings.{Readings}
 use Rattle.es_top.specs.declared.texts.Reply.{Reply}
-use Rattle.es_top.specs.declared.texts.Reply.TheVariants.{Syntax}
+use Rattle.es_top.specs.declared.texts.Reply.TheVariants.{Syntax, Long}
 use Rattle.es_top.specs.Answer.{Options, Answer, says, accepts, answer, differs}
 use Rattle.es_top.specs.Decision.{Rules, logs_of}
 use Rattle.es_top.specs.Requests.{Request, command, no_request}
@@ -47,20 +47,20 @@ pub record AnswersCommand (rules : Rules) (options : Options) (openings historie
   pub replied : answer rules options.capacity app (take x.mark (histories app)) (logs_of histories) asked id expect x.at ≡ answer_with x.added x.reply
   pub stands : IfSome x.added (λ y. IsAt histories app x.mark y)
 
--- any other line is answered `syntax`, and nothing else
-pub record AnswersNothing (x : Answered) : Type 0 where
+-- any other line gets its reply, and nothing else
+pub record AnswersNothing (reply : Reply) (x : Answered) : Type 0 where
   pub unnamed : x.app ≡ None
   pub nothing : x.added ≡ None
-  pub replied : x.reply ≡ Syntax
+  pub replied : x.reply ≡ reply
 
 abbrev pub AnswersRequest : Rules → Options → Histories → Histories → Readings → Request → Answered → Type 0
-AnswersRequest rules options openings histories readings no_request x = AnswersNothing x
+AnswersRequest rules options openings histories readings no_request x = AnswersNothing Syntax x
 AnswersRequest rules options openings histories readings (command app asked id expect) x = AnswersCommand rules options openings histories readings app asked id expect x
 
 -- a line is answered as it has to be; one that doesn't end within the input's limit isn't answered
 abbrev pub AnswersLine : Rules → Options → Histories → Histories → Readings → Line → Answered → Type 0
 AnswersLine rules options openings histories readings (text t) x = AnswersRequest rules options openings histories readings (rules.request t) x
-AnswersLine rules options openings histories readings long x = AnswersNothing x
+AnswersLine rules options openings histories readings long x = AnswersNothing Long x
 AnswersLine rules options openings histories readings over x = ⊥
 
 -- of two lines on one application the later has no smaller mark, and a greater one where the earlier was accepted

@@ -8,11 +8,11 @@ use Rattle.es_model.specs.declared.event.Recording.{Recording}
 use Rattle.es_model.specs.History.{Histories, log, latest}
 use Rattle.es_model.specs.Lines.{Line, text, long, over}
 use Rattle.es_model.specs.Tracking.{tracked_in}
-use Rattle.es_model.specs.Values.{Name, Id}
+use Rattle.es_model.specs.Values.{Name}
 use Rattle.es_io.specs.Readings.{Readings, first_reading, later_readings}
 use Rattle.es_recorder.specs.Held.{put}
 use Rattle.es_top.specs.declared.texts.Reply.{Reply}
-use Rattle.es_top.specs.declared.texts.Reply.TheVariants.{Syntax, Conflict}
+use Rattle.es_top.specs.declared.texts.Reply.TheVariants.{Syntax, Long, Conflict}
 use Rattle.es_top.specs.declared.texts.End.{End}
 use Rattle.es_top.specs.declared.texts.End.TheVariants.{Ok, Over}
 use Rattle.es_top.specs.Answer.{Options, Answer, says, accepts, ends, answer, differs, Followed, adds, stops, followed}
@@ -76,7 +76,7 @@ request_turn rules options at lines (command app asked id expect) =
 abbrev pub line_turn : Rules → Options → Histories → Place → List Line → Turn
 line_turn rules options openings at [] = finished (Ok (added_counts rules.names openings at.histories) at.answered)
 line_turn rules options openings at (over ∷ lines) = finished Over
-line_turn rules options openings at (long ∷ lines) = goes_on (only_says Syntax) (past_line at lines)
+line_turn rules options openings at (long ∷ lines) = goes_on (only_says Long) (past_line at lines)
 line_turn rules options openings at (text t ∷ lines) = request_turn rules options at lines (rules.request t)
 
 -- the pairs that a leader leads, in the order of pairs

@@ -13,6 +13,7 @@ reply_text (reply.Accepted recording first last version) =
     codes "{\"first\":" ++ (decimal first ++ (codes ",\"last\":" ++ (decimal last ++ (codes ",\"ok\":\"do\",\"recording\":" ++ (decimal recording ++ (codes ",\"version\":" ++ (decimal version ++ codes "}")))))))
 reply_text (reply.Refused code) = codes "{\"code\":\"" ++ (code ++ codes "\",\"error\":\"refused\"}")
 reply_text reply.Syntax = codes "{\"error\":\"syntax\"}"
+reply_text reply.Long = codes "{\"error\":\"long\"}"
 reply_text (reply.Conflict latest) = codes "{\"error\":\"conflict\",\"latest\":" ++ (decimal latest ++ codes "}")
 reply_text (reply.Unreadable app id) = codes "{\"app\":\"" ++ (app ++ (codes "\",\"error\":\"unreadable\",\"id\":" ++ (decimal id ++ codes "}")))
 

@@ -1,7 +1,6 @@
 -- What the top call promises.
-use Rattle.std.specs.Prelude.{◌≡◌, ◌⊎◌, ℕ, ◌^◌, ◌<◌, List, [], ◌∷◌, ◌++◌, length, Option, Some, None}
+use Rattle.std.specs.Prelude.{◌≡◌, ◌⊎◌, ℕ, ◌^◌, ◌<◌, List, [], ◌++◌, length, Option, Some, None}
 use Rattle.std.specs.Io.KnownBytes.{Appends}
-use Rattle.es_model.specs.declared.event.Recording.{Recording}
 use Rattle.es_model.specs.History.{Histories}
 use Rattle.es_model.specs.Lines.{lines_of, NoLineFeed}
 use Rattle.es_model.specs.Values.{Name}
@@ -66,7 +65,7 @@ pub record ReadTo (input : List ℕ) (readings : Readings) (openings : Histories
   pub left_is : left ≡ Some rest
   pub parts : input ≡ answered ++ (begun ++ rest)
   pub unended : NoLineFeed begun
-  pub ends : EndsLine answered ⊎ (begun ++ rest ≡ [])
+  pub ends : EndsLine answered
   pub run : Run
   pub is : IsRunOf answered readings openings run
   pub steps : run.steps ≡ done

@@ -1,9 +1,9 @@
-ghost use Rattle.std.specs.Prelude.{◌≡◌, ◌<◌, ◌≤◌, ◌^◌, ◌∷◌, [], ℕ, List, Option, None, Some, OnOk, OnErr, IfErr, IsErrOf};
+ghost use Rattle.std.specs.Prelude.{◌≡◌, ◌<◌, ◌≤◌, ◌^◌, ◌∷◌, [], ℕ, List, Option, None, Some, false, OnOk, OnErr, IfErr, IsErrOf};
 ghost use Rattle.std.specs.Io.KnownBytes.{Appends};
 ghost use Rattle.es_model.specs.Causes.{HasCause, Rose};
 ghost use Rattle.es_model.specs.Lines.{Line, text as text_line};
 ghost use Rattle.es_io.specs.Front.{AppendsFront};
-ghost use Rattle.es_io.specs.LinesLeft.{lines_left, unread_of, room_of, source_of, fault_of};
+ghost use Rattle.es_io.specs.LinesLeft.{lines_left, unread_of, room_of, has_ended, source_of, fault_of, EndsRightly};
 ghost use Rattle.es_io.specs.Next.{EndsUnended};
 ghost use Rattle.es_top.specs.Answer.{Options};
 ghost use Rattle.es_top.specs.Sample.{bank};
@@ -114,6 +114,7 @@ fn drain_after<R: ProcessRecorder, C: Clock>(
         },
         Reply::Refused { code: _ } => Ok(()),
         Reply::Syntax => Ok(()),
+        Reply::Long => Ok(()),
         Reply::Conflict { latest: _ } => Ok(()),
         Reply::Unreadable { app: _, id: _ } => Ok(()),
     }
@@ -183,11 +184,14 @@ fn turn<S: Source, T: Sink, R: ProcessRecorder, C: Clock>(
     prompted: &[Text],
 ) -> Result<(), Stop>
     requires clear { fault_of lines.old ≡ None }
+    requires ends { EndsRightly S.left lines.old }
     requires prompted { prompted.now ≡ bank ∷ [] }
     ensures turned { (options : Options) (s : State) (ls : List Line) → Holds R.history R.capacity options apps.old (C.readings clock.old) s → lines_left S.left lines.old ≡ Some ls
         → TakesTurn options s (Holds R.history R.capacity options apps.new (C.readings clock.new)) ls (lines_left S.left lines.new) (R.history apps.new.bank.recorder) (R.history apps.new.audit.recorder)
         (T.written out.old) (T.written out.new) result }
-    ensures uses { OnOk result (UsesTold (unread_of S.left lines.old) (unread_of S.left lines.new)) }
+    ensures ends { EndsRightly S.left lines.new }
+    ensures uses { OnOk result (UsesTold (unread_of S.left lines.old) (unread_of S.left lines.new) (has_ended lines.new)) }
+    ensures not_ended { IsErrOf result Stop.Read → has_ended lines.old ≡ false }
     ensures unended { IsErrOf result Stop.Read → EndsUnended (unread_of S.left lines.old) (S.left (source_of lines.new).now) }
     ensures same_reference { (source_of lines.new).ghost_name ≡ (source_of lines.old).ghost_name }
     ensures room { OnOk result (room_of lines.new < room_of lines.old) }
@@ -202,7 +206,7 @@ fn turn<S: Source, T: Sink, R: ProcessRecorder, C: Clock>(
 {
     match lines.next() {
         Ok(Step::Line(line)) => answer_line(alloc, out, apps, clock, prompted, line.as_slice()),
-        Ok(Step::Long) => say(alloc, out, &Reply::Syntax),
+        Ok(Step::Long) => say(alloc, out, &Reply::Long),
         Ok(Step::End) => Err(Stop::End),
         Ok(Step::Over) => Err(Stop::Over),
         Err(LinesFault::Read) => Err(Stop::Read),
@@ -220,6 +224,7 @@ fn answer_all<S: Source, T: Sink, R: ProcessRecorder, C: Clock>(
     prompted: &[Text],
 ) -> (Stop, u64)
     requires clear { fault_of lines.old ≡ None }
+    requires ends { EndsRightly S.left lines.old }
     requires room { room_of lines.old < 2 ^ 63 }
     requires prompted { prompted.now ≡ bank ∷ [] }
     ensures answered { (options : Options) (s n : State) (ls : List Line) (u : Option (List ℕ)) → Begun options s n ls u (T.written out.old) → Holds R.history R.capacity options apps.old (C.readings clock.old) n
@@ -255,6 +260,7 @@ pub fn serve<S: Source, T: Sink, R: ProcessRecorder, C: Clock>(
     prompted: &[Text],
 ) -> (Stop, u64)
     requires clear { fault_of lines.old ≡ None }
+    requires ends { EndsRightly S.left lines.old }
     requires room { room_of lines.old < 2 ^ 63 }
     requires prompted { prompted.now ≡ bank ∷ [] }
     ensures served { (options : Options) (s : State) (ls : List Line) → Holds R.history R.capacity options apps.old (C.readings clock.old) s → lines_left S.left lines.old ≡ Some ls

@@ -266,7 +266,7 @@ fn a_long_line_is_one_line(rt: HostRuntime) -> Result<(), Fail> {
     let long = long_line(alloc, 1024)?;
     assert_eq!(rt; long.as_str().len(), 65538);
     let (code, bytes, _) = ran(alloc, &["run", "sample"], &[long.as_str(), OPEN], PLAIN)?;
-    let expected = joined(alloc, &[SYNTAX, FIRST, ONE_OF_TWO])?;
+    let expected = joined(alloc, &["{\"error\":\"long\"}\n", FIRST, ONE_OF_TWO])?;
     assert_eq!(rt; code, 0);
     assert!(rt; bytes.as_slice() == expected.as_bytes());
     Ok(())
@@ -660,6 +660,7 @@ fn replies_have_their_texts(rt: HostRuntime) -> Result<(), Fail> {
             "{\"code\":\"exists\",\"error\":\"refused\"}",
         ),
         (Reply::Syntax, "{\"error\":\"syntax\"}"),
+        (Reply::Long, "{\"error\":\"long\"}"),
         (
             Reply::Conflict { latest: 6 },
             "{\"error\":\"conflict\",\"latest\":6}",

@@ -20,7 +20,10 @@ pub enum Reply {
     Refused {
         code: Text,
     },
+    /// The line is no command.
     Syntax,
+    /// The line has more bytes than a line may have.
+    Long,
     /// The command expects another version than the latest one.
     Conflict {
         latest: u64,
@@ -215,6 +218,7 @@ pub fn reply_text(alloc: Global, reply: &Reply) -> Result<Bytes, NoMemory>
             format!(in alloc; "{{\"code\":\"{code}\",\"error\":\"refused\"}}")?
         }
         Reply::Syntax => String::from_str(alloc, "{\"error\":\"syntax\"}")?,
+        Reply::Long => String::from_str(alloc, "{\"error\":\"long\"}")?,
         Reply::Conflict { latest } => {
             format!(in alloc; "{{\"error\":\"conflict\",\"latest\":{latest}}}")?
         }

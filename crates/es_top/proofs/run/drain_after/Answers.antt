@@ -18,6 +18,9 @@ returns-in-Refused-clause-drained g c = λ options s u held. not_drained options
 pub returns-in-Syntax-clause-drained : goal.returns-in-Syntax-clause-drained
 returns-in-Syntax-clause-drained g c = λ options s u held. not_drained options s _ c.args.prompted.now c.args.reply.now u (ap (λ r. prompted_by r c.args.prompted.now) c.in-Syntax.is) held
 
+pub returns-in-Long-clause-drained : goal.returns-in-Long-clause-drained
+returns-in-Long-clause-drained g c = λ options s u held. not_drained options s _ c.args.prompted.now c.args.reply.now u (ap (λ r. prompted_by r c.args.prompted.now) c.in-Long.is) held
+
 pub returns-in-Conflict-clause-drained : goal.returns-in-Conflict-clause-drained
 returns-in-Conflict-clause-drained g c = λ options s u held. not_drained options s _ c.args.prompted.now c.args.reply.now u (ap (λ r. prompted_by r c.args.prompted.now) c.in-Conflict.is) held
 

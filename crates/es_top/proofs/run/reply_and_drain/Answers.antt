@@ -1,4 +1,4 @@
-use Rattle.es_top.proofs.ServesLemmas.{replied, unreplied}
+use Rattle.es_top.proofs.ServesLemmas.{replied}
 use Rattle.es_top.proofs.run.reply_and_drain.Goals as goal
 
 pub returns-in-Ok-clause-replied : goal.returns-in-Ok-clause-replied

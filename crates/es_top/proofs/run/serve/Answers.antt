@@ -1,5 +1,3 @@
-use Rattle.std.proofs.Common.{refl}
-use Rattle.es_top.specs.Standing.{Holds}
 use Rattle.es_top.proofs.LoopLemmas.{begun, drain_stopped}
 use Rattle.es_top.proofs.run.serve.Goals as goal
 

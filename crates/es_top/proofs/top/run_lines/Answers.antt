@@ -1,4 +1,4 @@
-use Rattle.std.proofs.Common.{◌≡◌, ◌∙◌, ap, sym, subst, refl, None, rules}
+use Rattle.std.proofs.Common.{◌∙◌, ap, sym, subst, refl, None, rules}
 use Rattle.std.specs.Option.{option_map}
 use Rattle.es_model.specs.Lines.{lines_of}
 use Rattle.es_top.specs.Ran.{state_of}

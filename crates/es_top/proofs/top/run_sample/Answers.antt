@@ -1,4 +1,4 @@
-use Rattle.std.proofs.Common.{◌≡◌, ◌∙◌, ap, sym, subst, refl, pos, [], Some, Ok}
+use Rattle.std.proofs.Common.{◌∙◌, ap, subst, refl, pos, [], Some}
 use Rattle.es_io.specs.Readings.{Readings}
 use Rattle.es_top.specs.Ran.{SameBesides}
 use Rattle.es_top.specs.Top.{AreOccupied}

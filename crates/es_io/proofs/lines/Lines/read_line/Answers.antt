@@ -34,6 +34,7 @@ loop-line-preserved g c =
       same_reference = ap (λ r. r.ghost_name) c.pop-byte.ensures.same_source ∙ c.has_more.ensures.same_reference ∙ c.loop-line.invariant.same_reference;
       line_limit = c.has_more.ensures.line_limit ∙ c.loop-line.invariant.line_limit;
       room = omega (arith, c.loop-line.invariant.room, c.has_more.ensures.room);
+      ended = c.has_more.ensures.ended ∙ c.loop-line.invariant.ended;
       fault = c.has_more.ensures.fault ∙ c.loop-line.invariant.fault;
       bound = TakesAtMost-same _ _ _ _ _ _ _ _ c.loop-line.invariant.bound c.has_more.ensures.bound (ap (λ r. g.S.Source.left r.now) c.pop-byte.ensures.same_source) (omega (arith, c.pop-byte.ensures.one));
       later = omega (arith, ap (λ r. g.S.Source.faults r.now) c.pop-byte.ensures.same_source, c.has_more.ensures.cause.later, c.loop-line.invariant.later);
@@ -41,11 +42,11 @@ loop-line-preserved g c =
 
 pub returns-then-self-eq0-clause-uses : goal.returns-then-self-eq0-clause-uses
 returns-then-self-eq0-clause-uses g c =
-    uses_at_over _ _ _ _ _ (Part-limit _ _ _ _ _ _ _ c.has_more.ensures.line_limit c.loop-line.invariant.part c.has_more.ensures.keeps)
+    uses_at_over _ _ _ _ _ _ (Part-limit _ _ _ _ _ _ _ c.has_more.ensures.line_limit c.loop-line.invariant.part c.has_more.ensures.keeps)
 
 pub returns-then-byte-eq10-clause-uses : goal.returns-then-byte-eq10-clause-uses
 returns-then-byte-eq10-clause-uses g c =
-    uses_at_break _ _ _ _ _ _ _ _ _ c.if-byte-eq10.true c.whole.ensures (Part-limit _ _ _ _ _ _ _ c.has_more.ensures.line_limit c.loop-line.invariant.part c.has_more.ensures.keeps) c.pop-byte.ensures.takes
+    uses_at_break _ _ _ _ _ _ _ _ _ _ c.if-byte-eq10.true c.whole.ensures (Part-limit _ _ _ _ _ _ _ c.has_more.ensures.line_limit c.loop-line.invariant.part c.has_more.ensures.keeps) c.pop-byte.ensures.takes
 
 pub returns-clause-uses : goal.returns-clause-uses
 returns-clause-uses g c =

@@ -1,4 +1,4 @@
-use Rattle.std.proofs.Common.{◌≡◌, ◌≤◌, ◌+◌}
+use Rattle.std.proofs.Common.{◌≡◌, ◌≤◌, ◌+◌, false}
 use Rattle.es_io.specs.Ahead.{unread}
 use Rattle.es_io.specs.LinesLeft.{may_take}
 use Rattle.es_io.specs.Next.{TakesAtMost}
@@ -11,6 +11,7 @@ invariant-loop-line g l = record {
   same_reference : l.self.ahead.source.ghost_name ≡ l.initial.self.ahead.source.ghost_name;
   line_limit : l.self.line_limit ≡ l.initial.self.line_limit;
   room : l.initial.self.room ≡ l.self.room + l.count;
+  ended : l.self.ended ≡ false;
   fault : l.self.fault ≡ l.initial.self.fault;
   bound : TakesAtMost (g.S.Source.left l.initial.self.ahead.source.now) (g.S.Source.left l.self.ahead.source.now) (may_take l.initial.self) (may_take l.self);
   later : g.S.Source.faults l.initial.self.ahead.source.now ≤ g.S.Source.faults l.self.ahead.source.now;

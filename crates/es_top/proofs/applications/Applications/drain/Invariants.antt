@@ -1,4 +1,4 @@
-use Rattle.std.proofs.Common.{◌≡◌, ℕ, List, [], Option, drop}
+use Rattle.std.proofs.Common.{ℕ, List, [], Option, drop}
 use Rattle.es_top.specs.Answer.{Options}
 use Rattle.es_top.specs.Standing.{State, Holds, Later, SameNames, Came, standing}
 use Rattle.es_top.proofs.applications.Applications.drain.Given as goal

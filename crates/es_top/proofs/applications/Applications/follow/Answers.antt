@@ -1,4 +1,4 @@
-use Rattle.std.proofs.Common.{arith, refl, ◌∙◌, ◌∷◌, [], Err}
+use Rattle.std.proofs.Common.{arith, refl, ◌∙◌, ◌∷◌}
 use Rattle.es_top.specs.Sample.{bank, audit}
 use Rattle.es_top.proofs.StandingLemmas.{stays, follow_more, follow_faulted}
 use Rattle.es_top.proofs.applications.Applications.follow.Goals as goal

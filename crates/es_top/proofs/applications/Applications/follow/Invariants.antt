@@ -1,4 +1,4 @@
-use Rattle.std.proofs.Common.{◌≡◌, ◌+◌, ◌-◌, ℕ, List, Option, Ok, if◌then◌else◌}
+use Rattle.std.proofs.Common.{◌+◌, ◌-◌, ℕ, List, Option, Ok, if◌then◌else◌}
 use Rattle.es_model.specs.Values.{Name}
 use Rattle.es_top.specs.Answer.{Options}
 use Rattle.es_top.specs.Drains.{FollowsOne}

@@ -1,6 +1,6 @@
 use Rattle.es_top.proofs.StandingLemmas.{none_left, reading_failed}
 use Rattle.es_top.specs.Sample.{bank, audit}
-use Rattle.std.proofs.Common.{◌≡◌, ◌∙◌, ◌∷◌}
+use Rattle.std.proofs.Common.{◌∷◌}
 use Rattle.es_top.proofs.applications.Applications.follow_one.Goals as goal
 
 pub returns-in-Ok-None-clause-followed : goal.returns-in-Ok-None-clause-followed

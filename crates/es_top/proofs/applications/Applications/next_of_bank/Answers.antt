@@ -1,9 +1,7 @@
-use Rattle.std.proofs.Common.{◌≡◌, ◌∙◌, ◌+◌, sym, ap, subst, IfSome, None}
-use Rattle.std.specs.Option.{MatchOption}
+use Rattle.std.proofs.Common.{◌≡◌, ◌∙◌, ◌+◌, ap, subst, IfSome}
 use Rattle.es_model.specs.History.{log}
 use Rattle.es_model.specs.Tracking.{tracked_in}
 use Rattle.es_recorder.specs.Selections.{select_notifications}
-use Rattle.es_top.specs.Sample.{bank}
 use Rattle.es_top.proofs.StandingLemmas.{finds_next}
 use Rattle.es_top.proofs.applications.Applications.next_of_bank.Goals as goal
 

@@ -1,4 +1,4 @@
-use Rattle.std.proofs.Common.{arith, ◌≡◌, ◌∙◌, ◌+◌, ◌-◌, ap, slice_get, Ok, Err}
+use Rattle.std.proofs.Common.{arith, ◌≡◌, ◌∙◌, ◌-◌, ap, slice_get, Ok, Err}
 use Rattle.es_model.specs.History.{log}
 use Rattle.es_model.specs.Tracking.{tracked_in}
 use Rattle.es_top.specs.Sample.{bank}
