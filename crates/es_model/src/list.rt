@@ -56,6 +56,11 @@ impl<T> List<T> {
     {
         self.items.len()
     }
+
+    /// The allocator that it was made with.
+    pub fn allocator(&self) -> Global {
+        *self.items.allocator()
+    }
 }
 
 impl<T: Drop> List<T> {

@@ -74,6 +74,11 @@ impl<T> Rising<T> {
             .find(|entry| entry.0.as_str() == name.as_str())?;
         Some(&entry.1)
     }
+
+    /// The allocator that it was made with.
+    pub fn allocator(&self) -> Global {
+        *self.entries.allocator()
+    }
 }
 
 impl<T: Drop> Rising<T> {
