@@ -16,8 +16,8 @@ use Rattle.es_model.specs.declared.value.Value.{Value}
 use Rattle.es_model.specs.declared.value.Atom.{Atom}
 use Rattle.es_transcode.specs.declared.fault.DecodeFault.{DecodeFault}
 use Rattle.es_transcode.specs.declared.fault.DecodeFault.TheVariants as fault
-use Rattle.es_transcode.specs.RecordText.{AreAtomTrees, IsAtomTree, IsValueTree, AreMembers, IsRecordTree}
-use Rattle.es_transcode.specs.Decoding.{Decodes, IsAtomFault, IsItemsFault, IsValueFault, IsMembersFault, IsRecordFault, IsTreeOf, IsDecoded}
+use Rattle.es_transcode.specs.RecordText.{AreAtomTrees, IsAtomTree, IsValueTree, AreMembers, IsRecordTree, IsTreeOf}
+use Rattle.es_transcode.specs.Decoding.{Decodes, IsAtomFault, IsItemsFault, IsValueFault, IsMembersFault, IsRecordFault, IsDecoded}
 use Rattle.es_transcode.proofs.RecordLemmas.{push-tree}
 
 pub two-long : (es : List (String Global × Tree)) (k l : List ℕ) (d e : Data) → members_view es ≡ member k d (member l e no_members) → length es ≡ 2

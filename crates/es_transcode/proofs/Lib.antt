@@ -1,7 +1,10 @@
+pub mod CanonicalLemmas
 pub mod CivilLemmas
 pub mod DateLemmas
 pub mod DecimalLemmas
 pub mod DecodingLemmas
 pub mod DigitsLemmas
+pub mod MomentLemmas
 pub mod RecordLemmas
+pub mod TaggedLemmas
 pub mod TextsLemmas

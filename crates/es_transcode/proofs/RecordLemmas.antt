@@ -1,15 +1,17 @@
 -- Laws of records and their trees.
-use Rattle.std.proofs.Common.{◌≡◌, ◌∙◌, ◌<◌, ◌+◌, ℕ, List, [], ◌∷◌, ◌++◌, length, take, get_or, refl, sym, ap, subst, add-one}
+use Rattle.std.proofs.Common.{◌≡◌, ◌∙◌, ◌<◌, ◌≤◌, ◌+◌, Some, arith, ℕ, List, [], ◌∷◌, ◌++◌, length, take, get_or, refl, sym, ap, subst, add-one}
 use Rattle.std.proofs.Math.Seq.{take-suc}
 use Rattle.std.proofs.Common.{IsTrue, zero, suc, false, pos, negsuc, BTreeMap, String, Global}
 use Rattle.std.specs.Ordering.{nat_cmp, is_lt, ordering_reverse}
 use Rattle.std.specs.declared.cmp.Ordering.{Ordering}
 use Rattle.std.specs.declared.cmp.Ordering.TheVariants.{Less, Equal, Greater}
 use Rattle.std.specs.Cmp.Lexicographic.{slice_cmp}
+use Rattle.std.specs.Str.{IsUtf8}
 use Rattle.std.proofs.lemmas.Cmp.{nat_list_cmp_total}
-use Rattle.serde_json.specs.Data.{Data, Items, no_items, item, Members, no_members, member, put}
+use Rattle.serde_json.specs.Data.{Data, Items, no_items, item, Members, no_members, member, put, depth, items_depth, members_depth}
 use Rattle.serde_json.specs.declared.value.Value.{Value as Tree, Object}
 use Rattle.serde_json.specs.View.{view, items_view, members_view}
+use Rattle.serde_json.specs.Read.{read, max_depth}
 use Rattle.serde_json.specs.Written.{compact_text, has_float, items_have_float, members_have_float}
 use Rattle.serde_json.proofs.Views.{view-Object}
 use Rattle.es_model.specs.Rising.{is_before, IsRising, comes_first}
@@ -84,13 +86,13 @@ members-step fields i x ms ns d within is rising so here more =
     let before : AllBefore (take i fields) x.0 = all-before (take i fields) x (subst IsRising front (rising-take fields (i + 1) rising)) in
     subst (λ xs. AreMembers xs ns) (sym front) (subst (λ us. AreMembers (take i fields ++ x ∷ []) us) (sym more) (put-last (take i fields) ms x d so here before))
 
--- the tree of a record has no float
+-- the tree of a record has no float, and nests three levels at most
 
 atom-exact : (a : Atom) (d : Data) → IsAtomTree a d → has_float d ≡ false
 atom-exact atom.Null d is = ap has_float is
 atom-exact (atom.Bool truth) d is = ap has_float is
-atom-exact (atom.Int (pos n)) d is = ap has_float is
-atom-exact (atom.Int (negsuc n)) d is = ap has_float is
+atom-exact (atom.Int (pos n)) d is = ap has_float is.1
+atom-exact (atom.Int (negsuc n)) d is = ap has_float is.1
 atom-exact (atom.Text text) d is = ap has_float is
 atom-exact (atom.Uuid id) d is = ap has_float is.2
 atom-exact (atom.Moment m) d is = ap has_float is.2
@@ -112,5 +114,33 @@ members-exact [] (member k d ms) so = absurd so
 members-exact (x ∷ xs) no_members so = absurd so
 members-exact (x ∷ xs) (member k d ms) so = rw (value-exact x.1 d so.1) (members-exact xs ms so.2)
 
-pub record-text : (r : Record) (m : BTreeMap (String Global) Tree) (text : List ℕ) → AreMembers r (members_view m.entries) → (has_float (view (Object m)) ≡ false → text ≡ compact_text (view (Object m))) → IsRecordText r text
-record-text r m text so is = (view (Object m), (members_view m.entries, so, view-Object m), is (ap has_float (view-Object m) ∙ members-exact r (members_view m.entries) so))
+atom-flat : (a : Atom) (d : Data) → IsAtomTree a d → depth d ≤ 1
+atom-flat atom.Null d is = omega (arith, ap depth is)
+atom-flat (atom.Bool truth) d is = omega (arith, ap depth is)
+atom-flat (atom.Int z) d is = omega (arith, ap depth is.1)
+atom-flat (atom.Text text) d is = omega (arith, ap depth is)
+atom-flat (atom.Uuid id) d is = omega (arith, ap depth is.2)
+atom-flat (atom.Moment m) d is = omega (arith, ap depth is.2)
+atom-flat (atom.Decimal n) d is = omega (arith, ap depth is.2)
+
+atoms-flat : (items : List Atom) (ds : Items) → AreAtomTrees items ds → items_depth ds ≤ 1
+atoms-flat [] no_items so = omega arith
+atoms-flat [] (item d ds) so = absurd so
+atoms-flat (a ∷ items) no_items so = absurd so
+atoms-flat (a ∷ items) (item d ds) so = omega (arith, atom-flat a d so.0, atoms-flat items ds so.1)
+
+value-flat : (v : Value) (d : Data) → IsValueTree v d → depth d ≤ 2
+value-flat (value.One a) d is = omega (arith, atom-flat a d is)
+value-flat (value.List items) d is = omega (arith, ap depth is.2, atoms-flat items is.0 is.1)
+
+members-flat : (xs : Record) (ms : Members) → AreMembers xs ms → members_depth ms ≤ 2
+members-flat [] no_members so = omega arith
+members-flat [] (member k d ms) so = absurd so
+members-flat (x ∷ xs) no_members so = absurd so
+members-flat (x ∷ xs) (member k d ms) so = omega (arith, value-flat x.1 d so.1, members-flat xs ms so.2)
+
+pub record-text : (r : Record) (m : BTreeMap (String Global) Tree) (text : List ℕ) → AreMembers r (members_view m.entries) → IsUtf8 text
+    → (depth (view (Object m)) ≤ max_depth → read text ≡ Some (view (Object m))) → (has_float (view (Object m)) ≡ false → text ≡ compact_text (view (Object m))) → IsRecordText r text
+record-text r m text so utf8 back is =
+    let flat : depth (view (Object m)) ≤ max_depth = omega (arith, ap depth (view-Object m), members-flat r (members_view m.entries) so) in
+    (view (Object m), (utf8, back flat), (members_view m.entries, so, view-Object m), is (ap has_float (view-Object m) ∙ members-exact r (members_view m.entries) so))

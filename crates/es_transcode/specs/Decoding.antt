@@ -1,17 +1,16 @@
 -- What is read from a tree, and the faults of a tree that isn't that of a record.
 use Rattle.std.specs.Prelude.{ℕ, ◌≡◌, ◌⊎◌, List, codes, if◌then◌else◌, Option, None, Some, Result, Ok, Err}
-use Rattle.std.specs.Str.{bytes_eq, IsUtf8}
-use Rattle.serde_json.specs.Read.{read}
+use Rattle.std.specs.Str.{bytes_eq}
 use Rattle.serde_json.specs.Data.{Data, number, string, array, object, Items, no_items, item, Members, no_members, member}
 use Rattle.serde_json.specs.Find.{as_i64}
-use Rattle.es_model.specs.Values.{Record, IsValid}
+use Rattle.es_model.specs.Values.{Record}
 use Rattle.es_model.specs.declared.value.Atom.{Atom}
 use Rattle.es_model.specs.declared.value.AtomKind.{AtomKind}
 use Rattle.es_model.specs.declared.value.AtomKind.TheVariants as kind
 use Rattle.es_model.specs.declared.value.Value.{Value}
 use Rattle.es_transcode.specs.declared.fault.DecodeFault.{DecodeFault}
 use Rattle.es_transcode.specs.declared.fault.DecodeFault.TheVariants as fault
-use Rattle.es_transcode.specs.RecordText.{IsAtomTree, IsValueTree, IsRecordTree}
+use Rattle.es_transcode.specs.RecordText.{IsAtomTree, IsValueTree, IsRecordTree, IsTreeOf}
 use Rattle.es_transcode.specs.Texts.{kind_of, HasText}
 
 -- the kind of the atoms that a word stands for
@@ -27,7 +26,7 @@ pair d word = member (codes "_data_") d (member (codes "_type_") (string word) n
 
 -- a tree is the text of an atom of a kind
 abbrev pub IsTextOfKind : AtomKind → Data → Type 0
-IsTextOfKind k d = (a : Atom) × (text : List ℕ) × IsValid a × (kind_of a ≡ Some k) × HasText a text × (d ≡ string text)
+IsTextOfKind k d = (a : Atom) × (text : List ℕ) × (kind_of a ≡ Some k) × HasText a text × (d ≡ string text)
 
 -- the fault of an object where an atom is to stand
 abbrev pub IsTagFault : Members → DecodeFault → Type 0
@@ -78,10 +77,6 @@ AreTwo None ms = (k l : List ℕ) (d e : Data) → ms ≡ member k d (member l e
 abbrev pub IsPairOrNone : Option (Data × List ℕ) → Members → Type 0
 IsPairOrNone (Some p) ms = ms ≡ pair p.0 p.1
 IsPairOrNone None ms = (d : Data) (word : List ℕ) → ms ≡ pair d word → ⊥
-
--- bytes are a text in UTF-8, and JSON that nests 127 levels at most, of this tree
-abbrev pub IsTreeOf : List ℕ → Data → Type 0
-IsTreeOf bytes d = IsUtf8 bytes × (read bytes ≡ Some d)
 
 -- an answer to bytes: the record of their tree, that they have no tree, a fault of their tree, or want of memory
 abbrev pub IsDecoded : List ℕ → Result Record DecodeFault → Type 0

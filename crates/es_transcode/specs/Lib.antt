@@ -1,5 +1,7 @@
+pub mod CanonicalText
 pub mod CivilText
 pub mod Decoding
+pub mod MomentText
 pub mod Padded
 pub mod RecordText
 pub mod Texts

@@ -1,9 +1,11 @@
 -- Records as JSON trees, and as their texts.
-use Rattle.std.specs.Prelude.{ℕ, ◌≡◌, List, [], ◌∷◌, codes}
+use Rattle.std.specs.Prelude.{ℕ, ◌≡◌, List, [], ◌∷◌, codes, Some}
+use Rattle.std.specs.Str.{IsUtf8}
 use Rattle.serde_json.specs.Data.{Data, null, boolean, number, string, array, object, Items, no_items, item, Members, no_members, member}
 use Rattle.serde_json.specs.Find.{of_integer}
+use Rattle.serde_json.specs.Read.{read}
 use Rattle.serde_json.specs.Written.{compact_text}
-use Rattle.es_model.specs.Values.{Record}
+use Rattle.es_model.specs.Values.{Record, IsValid}
 use Rattle.es_model.specs.declared.value.Atom.{Atom}
 use Rattle.es_model.specs.declared.value.Atom.TheVariants as atom
 use Rattle.es_model.specs.declared.value.Value.{Value}
@@ -22,7 +24,7 @@ IsTagged word a d = (text : List ℕ) × HasText a text × (d ≡ tagged word te
 abbrev pub IsAtomTree : Atom → Data → Type 0
 IsAtomTree atom.Null d = d ≡ null
 IsAtomTree (atom.Bool truth) d = d ≡ boolean truth
-IsAtomTree (atom.Int z) d = d ≡ number (of_integer z)
+IsAtomTree (atom.Int z) d = IsValid (atom.Int z) × (d ≡ number (of_integer z))
 IsAtomTree (atom.Text text) d = d ≡ string text
 IsAtomTree (atom.Uuid id) d = IsTagged (codes "uuid_hex") (atom.Uuid id) d
 IsAtomTree (atom.Moment m) d = IsTagged (codes "datetime_iso") (atom.Moment m) d
@@ -51,6 +53,10 @@ AreMembers (x ∷ xs) (member k d ms) = (k ≡ x.0) × IsValueTree x.1 d × AreM
 abbrev pub IsRecordTree : Record → Data → Type 0
 IsRecordTree r d = (ms : Members) × AreMembers r ms × (d ≡ object ms)
 
--- the canonical text of a record: its tree's, with no space and the shortest escapes
+-- bytes are a text in UTF-8, and JSON that nests 127 levels at most, of this tree
+abbrev pub IsTreeOf : List ℕ → Data → Type 0
+IsTreeOf bytes d = IsUtf8 bytes × (read bytes ≡ Some d)
+
+-- the canonical text of a record: a text of its tree, with no space and the shortest escapes
 abbrev pub IsRecordText : Record → List ℕ → Type 0
-IsRecordText r text = (d : Data) × IsRecordTree r d × (text ≡ compact_text d)
+IsRecordText r text = (d : Data) × IsTreeOf text d × IsRecordTree r d × (text ≡ compact_text d)

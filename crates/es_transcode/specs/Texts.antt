@@ -1,7 +1,8 @@
 -- The texts of ids, moments and decimals.
 use Rattle.std.specs.Prelude.{ℕ, suc, Bool, false, ◌∷◌, ◌≡◌, ◌/◌, ◌%◌, ◌^◌, ◌==◌, ℤ, pos, negsuc, unsigned_abs, List, [], ◌++◌, codes, decimal, if◌then◌else◌, Option, None, Some}
-use Rattle.uuid.specs.Text.{simple_text, lower}
+use Rattle.uuid.specs.Text.{simple_text, lower, parsed}
 use Rattle.es_model.specs.Scaled.{Scaled}
+use Rattle.es_model.specs.Values.{IsValid}
 use Rattle.es_model.specs.declared.value.Atom.{Atom}
 use Rattle.es_model.specs.declared.value.Atom.TheVariants as atom
 use Rattle.es_model.specs.declared.value.AtomKind.{AtomKind}
@@ -41,12 +42,12 @@ abbrev pub IsUnsigned : List ℕ → Bool → List ℕ → Type 0
 IsUnsigned [] negative rest = (negative ≡ false) × (rest ≡ [])
 IsUnsigned (b ∷ bs) negative rest = (negative ≡ b == 45) × (rest ≡ (if b == 45 then bs else b ∷ bs))
 
--- an atom has a text
+-- an atom has a text: the digits that are read as an id, or the text of a moment or a decimal in range
 abbrev pub HasText : Atom → List ℕ → Type 0
 HasText atom.Null text = ⊥
 HasText (atom.Bool truth) text = ⊥
 HasText (atom.Int number) text = ⊥
 HasText (atom.Text string) text = ⊥
-HasText (atom.Uuid id) text = text ≡ simple_text lower id
-HasText (atom.Moment moment) text = IsMomentText moment text
-HasText (atom.Decimal number) text = text ≡ decimal_text number
+HasText (atom.Uuid id) text = (text ≡ simple_text lower id) × (parsed text ≡ Some id)
+HasText (atom.Moment moment) text = IsValid (atom.Moment moment) × IsMomentText moment text
+HasText (atom.Decimal number) text = IsValid (atom.Decimal number) × (text ≡ decimal_text number)

@@ -1,6 +1,8 @@
 ghost use Rattle.std.specs.Prelude.{◌≡◌, ◌++◌, ◌≤◌, ◌<◌, ◌^◌, ◌*◌, ◌+◌, IfOk, IfSome, OnOk, Some, List, ℕ, ℤ, length, string_bytes, unsigned_abs, FitsSigned, decimal, pos, int_lt, ◌/◌, ◌%◌, drop};
 ghost use Rattle.std.specs.Int.{w64};
+ghost use Rattle.es_model.specs.declared.value.Atom.TheVariants as atoms;
 ghost use Rattle.es_model.specs.Scaled.{Scaled};
+ghost use Rattle.es_model.specs.Values.{IsValid};
 ghost use Rattle.es_transcode.specs.Texts.{sign, places_text, decimal_text, point_of, IsUnsigned};
 ghost use Rattle.es_transcode.specs.Padded.{padded};
 
@@ -49,7 +51,8 @@ fn push_places(text: &mut String, number: u64, places: u8) -> Result<(), NoMemor
 
 /// The text of a decimal.
 pub(crate) fn text_of(alloc: Global, decimal: Decimal) -> Result<String, NoMemory>
-    ensures { IfOk result (λ t. string_bytes t ≡ decimal_text decimal) }
+    ensures text { IfOk result (λ t. string_bytes t ≡ decimal_text decimal) }
+    ensures valid { IsValid (atoms.Decimal decimal) }
 {
     let magnitude = decimal.digits().unsigned_abs();
     let unit = unit_of(decimal.scale());
@@ -133,6 +136,7 @@ fn decimal_in(text: &[u8]) -> Option<Decimal>
 /// The decimal that has a text.
 pub(crate) fn decimal_of(alloc: Global, text: &str) -> Result<Option<Decimal>, NoMemory>
     ensures text { IfOk result (λ o. IfSome o (λ d. text.now ≡ decimal_text d)) }
+    ensures valid { IfOk result (λ o. IfSome o (λ d. IsValid (atoms.Decimal d))) }
     ensures found { IfOk result (λ o. (d : Scaled) → FitsSigned w64 d.digits → d.scale ≤ 6 → text.now ≡ decimal_text d → o ≡ Some d) }
 {
     if text.len() > LONGEST {

@@ -1,6 +1,7 @@
 ghost use Rattle.std.specs.Prelude.{◌≡◌, IfOk, OnOk};
 ghost use Rattle.serde_json.specs.View.{view, items_view, members_view};
 ghost use Rattle.es_model.specs.Rising.{IsRising};
+ghost use Rattle.es_transcode.specs.CanonicalText.{record_text};
 ghost use Rattle.es_transcode.specs.RecordText.{tagged, IsAtomTree, AreAtomTrees, IsValueTree, AreMembers, IsRecordTree, IsRecordText};
 
 use crate::{datetime, decimal, hex};
@@ -74,7 +75,8 @@ fn member_trees(
 
 /// The canonical text of a record.
 pub fn encode_record(alloc: Global, fields: &Fields) -> Result<Bytes, NoMemory>
-    ensures { IfOk result (IsRecordText fields.now) }
+    ensures record { IfOk result (IsRecordText fields.now) }
+    ensures text { IfOk result (λ t. t ≡ record_text fields.now) }
 {
     let members = member_trees(alloc, fields.as_slice())?;
     let text = serde_json::Value::Object(members).to_string(alloc)?;

@@ -1,5 +1,7 @@
-ghost use Rattle.std.specs.Prelude.{◌≡◌, ◌<◌, IfOk, IfSome, Some, List, ℕ, All, length, IsTrue, ◌↔◌};
+ghost use Rattle.std.specs.Prelude.{◌≡◌, IfOk, IfSome, Some, List, ℕ, IsTrue, ◌↔◌};
 ghost use Rattle.uuid.specs.Text.{simple_text, lower};
+ghost use Rattle.es_model.specs.declared.value.Atom.TheVariants as atoms;
+ghost use Rattle.es_transcode.specs.Texts.{HasText};
 
 use es_model::{NoMemory, Text};
 use std::alloc::Global;
@@ -7,7 +9,7 @@ use uuid::Uuid;
 
 /// The text of an id.
 pub(crate) fn text_of(alloc: Global, id: &Uuid) -> Result<Text, NoMemory>
-    ensures { IfOk result (λ t. t ≡ simple_text lower id.now) }
+    ensures { IfOk result (HasText (atoms.Uuid id.now)) }
 {
     let mut buffer = Uuid::encode_buffer();
     Text::from_str(alloc, id.simple().encode_lower(&mut buffer))
@@ -23,8 +25,8 @@ fn is_text_of(text: &str, id: &Uuid) -> bool
 
 /// The id that has a text.
 pub(crate) fn id_in(text: &str) -> Option<Uuid>
-    ensures text { IfSome result (λ u. text.now ≡ simple_text lower u) }
-    ensures found { (u : List ℕ) → length u ≡ 16 → All (λ b. b < 256) u → text.now ≡ simple_text lower u → result ≡ Some u }
+    ensures text { IfSome result (λ u. HasText (atoms.Uuid u) text.now) }
+    ensures found { (u : List ℕ) → HasText (atoms.Uuid u) text.now → result ≡ Some u }
 {
     match Uuid::parse_str(text) {
         Ok(id) => {

@@ -2,7 +2,6 @@ ghost use Rattle.std.specs.Prelude.{◌≡◌, List, ℕ, Some, IfOk, IfSome, co
 ghost use Rattle.es_model.specs.declared.value.Atom.{Atom};
 ghost use Rattle.es_model.specs.declared.value.AtomKind.{AtomKind};
 ghost use Rattle.es_model.specs.declared.value.AtomKind.TheVariants as kinds;
-ghost use Rattle.es_model.specs.Values.{IsValid};
 ghost use Rattle.es_transcode.specs.Texts.{kind_of, HasText};
 
 use crate::{datetime, decimal, hex};
@@ -29,7 +28,7 @@ pub trait Transcoding {
     /// The one atom that has the text. So it decodes what it encodes.
     fn decode(&self, alloc: Global, text: &Text) -> Result<Option<Atom>, NoMemory>
         ensures text { IfOk result (λ o. IfSome o (λ a. (kind_of a ≡ Some transcoded) × HasText a text.now)) }
-        ensures found { IfOk result (λ o. (a : Atom) → IsValid a → kind_of a ≡ Some transcoded → HasText a text.now → o ≡ Some a) };
+        ensures found { IfOk result (λ o. (a : Atom) → kind_of a ≡ Some transcoded → HasText a text.now → o ≡ Some a) };
 }
 
 /// An id as its thirty-two hexadecimal digits.

@@ -1,7 +1,7 @@
 use Rattle.std.proofs.Common.{◌≡◌, List, ℕ, Some, subst}
 use Rattle.serde_json.specs.Read.{read}
 use Rattle.serde_json.specs.View.{view}
-use Rattle.es_transcode.specs.Decoding.{IsTreeOf}
+use Rattle.es_transcode.specs.RecordText.{IsTreeOf}
 use Rattle.es_transcode.proofs.DecodingLemmas.{of-tree}
 use Rattle.es_transcode.proofs.decoding.decode_record.Goals as goal
 
