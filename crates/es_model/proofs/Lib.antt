@@ -1,3 +1,4 @@
 pub mod HistoryLemmas
+pub mod ItemLemmas
 pub mod RisingLemmas
 pub mod SnapshotLemmas

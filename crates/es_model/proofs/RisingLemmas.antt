@@ -46,7 +46,7 @@ other_step Equal x name is late unlike = cc
 other_step Greater x name is late unlike = ap is_lt (reversed x name Greater is)
 
 -- of two different names one is before the other
-other : (x name : Name) → is_before x name ≡ false → bytes_eq x name ≡ false → IsTrue (is_before name x)
+pub other : (x name : Name) → is_before x name ≡ false → bytes_eq x name ≡ false → IsTrue (is_before name x)
 other x name late unlike = other_step (order x name) x name refl late (is_eq-slice_cmp x name ∙ unlike)
 
 unlike_step : (o : Ordering) → IsTrue (is_lt o) → is_eq o ≡ false
@@ -55,10 +55,10 @@ unlike_step Equal h = cc
 unlike_step Greater h = cc
 
 -- a name that is before another is another
-unlike : (a b : Name) → IsTrue (is_before a b) → bytes_eq a b ≡ false
+pub unlike : (a b : Name) → IsTrue (is_before a b) → bytes_eq a b ≡ false
 unlike a b h = sym (is_eq-slice_cmp a b) ∙ unlike_step (order a b) h
 
-unlike-back : (b a : Name) → IsTrue (is_before a b) → bytes_eq b a ≡ false
+pub unlike-back : (b a : Name) → IsTrue (is_before a b) → bytes_eq b a ≡ false
 unlike-back b a h = sym (is_eq-slice_cmp b a) ∙ ap is_eq (reversed a b Less (less (order a b) h))
 
 same_step : (o : Ordering) (a b : Name) → order a b ≡ o → is_eq o ≡ true → is_before b a ≡ false

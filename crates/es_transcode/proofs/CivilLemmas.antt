@@ -14,7 +14,7 @@ IsRead digits r = (n : ℕ) → n < 18446744073709551616 → n < 10 ^ length dig
 read-at : (text whole : List ℕ) (f : List ℕ → List ℕ) (r n : ℕ) → text ≡ whole → IsRead (f text) r → n < 18446744073709551616 → n < 10 ^ length (f whole) → f whole ≡ padded (length (f whole)) n → r ≡ n
 read-at text whole f r n is read few small digits = subst (λ t. IsRead (f t) r) is read n few small digits
 
-years : (n : ℕ) → pos n ≤ℤ pos 9999 → n < 10000
+pub years : (n : ℕ) → pos n ≤ℤ pos 9999 → n < 10000
 years n h = omega (arith, ints)
 
 module _ (text : List ℕ) (c : Civil) (civil : IsCivil c) (is : text ≡ iso_text c) where
@@ -49,10 +49,10 @@ module _ (text : List ℕ) (c : Civil) (civil : IsCivil c) (is : text ≡ iso_te
       read-at text (iso_text c) (λ t. take 2 (drop 17 t)) r c.second is read (omega arith) small refl
 
   -- the text without microseconds, and with them
-  plain : (c.micros == 0) ≡ true → text ≡ date_text c ++ codes "T" ++ time_text c ++ [] ++ codes "+00:00"
+  pub plain : (c.micros == 0) ≡ true → text ≡ date_text c ++ codes "T" ++ time_text c ++ [] ++ codes "+00:00"
   plain none = is ∙ (λ i. date_text c ++ codes "T" ++ time_text c ++ (if none i then [] else (codes "." ++ padded 6 c.micros)) ++ codes "+00:00")
 
-  full : (c.micros == 0) ≡ false → text ≡ date_text c ++ codes "T" ++ time_text c ++ (codes "." ++ padded 6 c.micros) ++ codes "+00:00"
+  pub full : (c.micros == 0) ≡ false → text ≡ date_text c ++ codes "T" ++ time_text c ++ (codes "." ++ padded 6 c.micros) ++ codes "+00:00"
   full some = is ∙ (λ i. date_text c ++ codes "T" ++ time_text c ++ (if some i then [] else (codes "." ++ padded 6 c.micros)) ++ codes "+00:00")
 
   micros_by : (b : Bool) → (c.micros == 0) ≡ b → (r : ℕ) → (length text ≡ 32 → IsRead (take 6 (drop 20 text)) r) → ((length text ≡ 32 → ⊥) → r ≡ 0) → r ≡ c.micros

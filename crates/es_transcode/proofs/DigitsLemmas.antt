@@ -7,10 +7,10 @@ pub length-padded : (k n : ℕ) → length (padded k n) ≡ k
 length-padded zero n = refl
 length-padded (suc k) n = omega (arith, length-append (padded k (n / 10)) ((48 + n % 10) ∷ []), length-padded k (n / 10))
 
-front : (k n : ℕ) (ds : List ℕ) → ds ≡ padded (suc k) n → take k ds ≡ padded k (n / 10)
+pub front : (k n : ℕ) (ds : List ℕ) → ds ≡ padded (suc k) n → take k ds ≡ padded k (n / 10)
 front k n ds is = ap (take k) is ∙ subst (λ j. take j (padded (suc k) n) ≡ padded k (n / 10)) (length-padded k (n / 10)) (take-append_seam (padded k (n / 10)) ((48 + n % 10) ∷ []))
 
-last : (k n : ℕ) (ds : List ℕ) → ds ≡ padded (suc k) n → get_or ds k 0 ≡ 48 + n % 10
+pub last : (k n : ℕ) (ds : List ℕ) → ds ≡ padded (suc k) n → get_or ds k 0 ≡ 48 + n % 10
 last k n ds is = ap (λ zs. get_or zs k 0) is ∙ subst (λ j. get_or (padded (suc k) n) j 0 ≡ 48 + n % 10) (length-padded k (n / 10)) (get_or-append_seam (padded k (n / 10)) (48 + n % 10) [] 0)
 
 joined : (n r d : ℕ) → n < 18446744073709551616 → r ≡ n / 10 → d ≡ 48 + n % 10 → (r * 10 % 18446744073709551616 + (d + 208) % 256) % 18446744073709551616 ≡ n

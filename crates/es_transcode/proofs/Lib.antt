@@ -4,7 +4,9 @@ pub mod DateLemmas
 pub mod DecimalLemmas
 pub mod DecodingLemmas
 pub mod DigitsLemmas
+pub mod FaultLemmas
 pub mod MomentLemmas
+pub mod OnlyLemmas
 pub mod RecordLemmas
 pub mod TaggedLemmas
 pub mod TextsLemmas

@@ -1,6 +1,8 @@
-ghost use Rattle.std.specs.Prelude.{◌≡◌, IfOk, IfSome, IfNone, option_map, Some, List, ℕ};
+ghost use Rattle.std.specs.Prelude.{◌≡◌, ◌≢◌, IfOk, IfErr, IfSome, IfNone, option_map, Some, List, ℕ};
 ghost use Rattle.serde_json.specs.Data.{string, object};
 ghost use Rattle.serde_json.specs.View.{view, items_view, members_view};
+ghost use Rattle.es_model.specs.Values.{Record};
+ghost use Rattle.es_transcode.specs.declared.fault.DecodeFault.TheVariants as faults;
 ghost use Rattle.es_transcode.specs.Texts.{kind_of, HasText};
 ghost use Rattle.es_transcode.specs.RecordText.{IsAtomTree, AreAtomTrees, IsValueTree, AreMembers, IsRecordTree};
 ghost use Rattle.es_transcode.specs.Decoding.{kind_named, AreTwo, IsPairOrNone, IsTextOfKind, IsTagFault, IsAtomFault, IsItemsFault, IsValueFault, IsMembersFault, IsRecordFault, IsDecoded, Decodes};
@@ -151,7 +153,9 @@ pub fn decode_tree(alloc: Global, tree: &Tree) -> Result<Fields, DecodeFault>
 
 /// The record of a text.
 pub fn decode_record(alloc: Global, bytes: &[u8]) -> Result<Fields, DecodeFault>
-    ensures { IsDecoded bytes.now result }
+    ensures decoded { IsDecoded bytes.now result }
+    ensures one { IfOk result (λ r. (s : Record) → IsDecoded bytes.now (Ok s) → r ≡ s) }
+    ensures none { IfErr result (λ f. f ≢ faults.NoMemory → (r : Record) → ¬ IsDecoded bytes.now (Ok r)) }
 {
     let Ok(text) = str::from_utf8(bytes) else {
         return Err(DecodeFault::NotJson);
