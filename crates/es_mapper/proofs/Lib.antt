@@ -1,1 +1,2 @@
+pub mod MappingLemmas
 pub mod UpcastsLemmas

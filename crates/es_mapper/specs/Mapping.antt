@@ -1,7 +1,7 @@
 -- Stored events and the domain events that they stand for.
-use Rattle.std.specs.Prelude.{ℕ, suc, ◌≡◌, ◌≢◌, ◌≤◌, ◌<◌, ◌+◌, ◌-◌, ◌⊎◌, ℤ, pos, nat_lt, IsTrue, List, [], ◌∷◌, length, drop, codes, if◌then◌else◌, Option, None, Some, Result, Ok, Err}
+use Rattle.std.specs.Prelude.{ℕ, suc, ◌≡◌, ◌≢◌, ◌≤◌, ◌<◌, ◌-◌, ◌⊎◌, ℤ, pos, nat_lt, IsTrue, List, [], ◌∷◌, length, drop, codes, if◌then◌else◌, Option, None, Some, Result, Ok, Err}
 use Rattle.es_model.specs.Declaration.{is_created, event_named}
-use Rattle.es_model.specs.Rising.{item_of, without, with_item}
+use Rattle.es_model.specs.Rising.{IsRising, item_of, without, with_item}
 use Rattle.es_model.specs.Values.{Name, Record, are_of_kinds}
 use Rattle.es_model.specs.declared.value.Atom.TheVariants as atom
 use Rattle.es_model.specs.declared.value.Value.{Value}
@@ -113,6 +113,7 @@ pub record IsDeclared (sys : System) (e : DomainEvent) : Type 0 where
   pub class : Class
   pub event : EventClass
   pub declared : event_named sys.classes e.topic ≡ Some (class, event)
+  pub rising : IsRising e.fields
   pub fits : IsTrue (are_of_kinds e.fields event.fields)
   pub no_timestamp : item_of event.fields (codes "timestamp") ≡ None
   pub no_topic : item_of event.fields (codes "originator_topic") ≡ None

@@ -49,7 +49,10 @@ fn fields_of(
 {
     let mut fields = state;
     take_head(alloc, &mut fields)?;
-    upcast_by(&event.upcasts.as_slice()[(version - 1) as usize..], &mut fields)?;
+    upcast_by(
+        &event.upcasts.as_slice()[(version - 1) as usize..],
+        &mut fields,
+    )?;
     Ok(fields)
 }
 
@@ -128,11 +131,7 @@ fn with_class(
 }
 
 /// The domain event that a stored one stands for.
-pub fn to_domain(
-    alloc: Global,
-    sys: &System,
-    stored: &StoredEvent,
-) -> Result<DomainEvent, MapFault>
+pub fn to_domain(alloc: Global, sys: &System, stored: &StoredEvent) -> Result<DomainEvent, MapFault>
     ensures mapped { IsMapped sys.now stored.now result }
     ensures one { IfOk result (λ e. (f : event_type.DomainEvent) → IsEvent sys.now stored.now f → e ≡ f) }
     ensures none { IfErr result (λ f. f ≢ faults.NoMemory → (e : event_type.DomainEvent) → ¬ IsEvent sys.now stored.now e) }

@@ -1,6 +1,5 @@
-ghost use Rattle.std.specs.Prelude.{◌≡◌, IfOk, OnOk, codes};
+ghost use Rattle.std.specs.Prelude.{◌≡◌, ◌<◌, ◌^◌, IfOk, OnOk};
 ghost use Rattle.es_model.specs.Declaration.{event_named};
-ghost use Rattle.es_model.specs.Rising.{with_item};
 ghost use Rattle.es_mapper.specs.Mapping.{version_of, class_value, version_value, with_some, stamped, state_of, IsStored, IsDeclared, IsEvent};
 
 use es_model::{
@@ -12,15 +11,10 @@ use std::alloc::Global;
 
 /// The declared class version of an event.
 pub(crate) fn declared_version(event: &EventClass) -> u64
-    ensures { result ≡ version_of event.now }
+    ensures value { result ≡ version_of event.now }
+    ensures few { result < 2 ^ 63 }
 {
     event.upcasts.as_slice().len() as u64 + 1
-}
-
-fn put(alloc: Global, fields: &mut Fields, name: &str, value: Value) -> Result<(), NoMemory>
-    ensures { OnOk result (fields.new ≡ with_item fields.old name.now value) }
-{
-    fields.put(Text::from_str(alloc, name)?, value)
 }
 
 // The fields of an event, and its moment.
@@ -29,33 +23,43 @@ fn stamped(alloc: Global, event: &DomainEvent) -> Result<Fields, NoMemory>
 {
     let mut fields = event.fields.copy()?;
     let moment = Value::One(Atom::Moment(event.timestamp));
-    put(alloc, &mut fields, "timestamp", moment)?;
+    fields.put(Text::from_str(alloc, "timestamp")?, moment)?;
     Ok(fields)
 }
 
-fn put_class(
-    alloc: Global,
-    class: &Class,
-    topic: &str,
-    fields: &mut Fields,
-) -> Result<(), NoMemory>
-    ensures { OnOk result (fields.new ≡ with_some (class_value class.now topic.now) (codes "originator_topic") fields.old) }
+fn class_value(class: &Class, topic: &str) -> Result<Option<Value>, NoMemory>
+    ensures { IfOk result (λ o. o ≡ class_value class.now topic.now) }
 {
-    if !class.is_created(topic) {
-        return Ok(());
+    if class.is_created(topic) {
+        Ok(Some(Value::One(Atom::Text(class.name.copy()?))))
+    } else {
+        Ok(None)
     }
-    let name = Value::One(Atom::Text(class.name.copy()?));
-    put(alloc, fields, "originator_topic", name)
 }
 
-fn put_version(alloc: Global, event: &EventClass, fields: &mut Fields) -> Result<(), NoMemory>
-    ensures { OnOk result (fields.new ≡ with_some (version_value event.now) (codes "class_version") fields.old) }
+fn version_value(event: &EventClass) -> Option<Value>
+    ensures { result ≡ version_value event.now }
 {
     let version = declared_version(event);
-    if version == 1 {
-        return Ok(());
+    if version > 1 {
+        Some(Value::One(Atom::Int(version as i64)))
+    } else {
+        None
     }
-    put(alloc, fields, "class_version", Value::One(Atom::Int(version as i64)))
+}
+
+fn put_some(
+    alloc: Global,
+    fields: &mut Fields,
+    name: &str,
+    value: Option<Value>,
+) -> Result<(), NoMemory>
+    ensures { OnOk result (fields.new ≡ with_some value name.now fields.old) }
+{
+    match value {
+        Some(value) => fields.put(Text::from_str(alloc, name)?, value),
+        None => Ok(()),
+    }
 }
 
 // The record of an event's state.
@@ -65,8 +69,9 @@ fn state_of(alloc: Global, sys: &System, event: &DomainEvent) -> Result<Fields, 
     let mut fields = stamped(alloc, event)?;
     match sys.event(event.topic.as_str()) {
         Some((class, declared)) => {
-            put_class(alloc, class, event.topic.as_str(), &mut fields)?;
-            put_version(alloc, declared, &mut fields)?;
+            let class = class_value(class, event.topic.as_str())?;
+            put_some(alloc, &mut fields, "originator_topic", class)?;
+            put_some(alloc, &mut fields, "class_version", version_value(declared))?;
             Ok(fields)
         }
         None => Ok(fields),
@@ -74,11 +79,7 @@ fn state_of(alloc: Global, sys: &System, event: &DomainEvent) -> Result<Fields, 
 }
 
 /// An event as it is stored. Where it is declared, it is the domain event of what it is stored as.
-pub fn to_stored(
-    alloc: Global,
-    sys: &System,
-    event: &DomainEvent,
-) -> Result<StoredEvent, NoMemory>
+pub fn to_stored(alloc: Global, sys: &System, event: &DomainEvent) -> Result<StoredEvent, NoMemory>
     ensures stored { IfOk result (IsStored sys.now event.now) }
     ensures back { IfOk result (λ s. IsDeclared sys.now event.now → IsEvent sys.now s event.now) }
 {

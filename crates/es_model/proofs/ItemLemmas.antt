@@ -1,10 +1,10 @@
 -- Laws of the items that names are given and lose.
-use Rattle.std.proofs.Common.{◌≡◌, ◌∙◌, ℕ, IsTrue, Bool, true, false, List, [], ◌∷◌, ◌++◌, filter, take, drop, count_by, Option, Some, None, option_map, slice_get, take-append-drop, refl, sym, ap, subst}
+use Rattle.std.proofs.Common.{◌≡◌, ◌∙◌, ℕ, IsTrue, Bool, true, false, List, [], ◌∷◌, ◌++◌, filter, count_by, Option, Some, None, option_map, slice_get, take-append-drop, refl, sym, ap}
 use Rattle.std.proofs.lemmas.Slice.Eq.{bytes_eq-Decides}
 use Rattle.std.specs.Str.{bytes_eq}
 use Rattle.es_model.specs.Values.{Name}
 use Rattle.es_model.specs.Rising.{is_before, IsRising, item_of, with_item, without, has_name}
-use Rattle.es_model.proofs.RisingLemmas.{before-trans, not-before-back, unlike, unlike-back, other, IsPlace, place}
+use Rattle.es_model.proofs.RisingLemmas.{before-trans, unlike, unlike-back, other, IsPlace, place}
 
 pub itself : (name : Name) → bytes_eq name name ≡ true
 itself name = (bytes_eq-Decides name name).1 refl

@@ -49,7 +49,6 @@ module _ (word : List ℕ) where
   decimal-word : kind_named word ≡ Some kind.Decimal → word ≡ codes "decimal_str"
   decimal-word is = (bytes_eq-Decides word (codes "decimal_str")).0 (picked-decimal (bytes_eq word (codes "uuid_hex")) (bytes_eq word (codes "datetime_iso")) (bytes_eq word (codes "decimal_str")) is)
 
-
   tagged-tree-of : (a : Atom) (text : List ℕ) → kind_named word ≡ kind_of a → HasText a text → IsAtomTree a (tagged word text)
   tagged-tree-of atom.Null text is has = absurd has
   tagged-tree-of (atom.Bool truth) text is has = absurd has

@@ -1,7 +1,7 @@
 use crate::{
     DatetimeAsIso, DecimalAsStr, DecodeFault, Transcoding, UuidAsHex, decode_record, encode_record,
 };
-use es_model::{Atom, AtomKind, Decimal, Fields, List, Moment, NoMemory, Text, Value};
+use es_model::{Atom, AtomKind, Bytes, Decimal, Fields, List, Moment, NoMemory, Text, Value};
 use std::alloc::Global;
 use std::test::Fail;
 use uuid::Uuid;
@@ -256,6 +256,10 @@ fn records_are_read(rt: HostRuntime) -> Result<(), Fail> {
             "{\"t\":\"ü/\u{1f600}\"}",
         ),
         (
+            "{\"t\":\"\\\"\\\\\\b\\f\\n\\r\\t\\u0000\\u001F\\u0041\u{7f}\u{80}\"}",
+            "{\"t\":\"\\\"\\\\\\b\\f\\n\\r\\t\\u0000\\u001fA\u{7f}\u{80}\"}",
+        ),
+        (
             "{\"l\":[null,true,{\"_type_\":\"decimal_str\",\"_data_\":\"-0.05\"}]}",
             "{\"l\":[null,true,{\"_data_\":\"-0.05\",\"_type_\":\"decimal_str\"}]}",
         ),
@@ -273,12 +277,30 @@ fn other_records_are_faults(rt: HostRuntime) {
         (b"".as_slice(), DecodeFault::NotJson),
         (b"{\"a\":\"\xff\"}".as_slice(), DecodeFault::NotJson),
         (b"{\"a\":\"\x01\"}".as_slice(), DecodeFault::NotJson),
+        (b"{\"a\":\"\n\"}".as_slice(), DecodeFault::NotJson),
+        (b"{\"a\":\"\x1f\"}".as_slice(), DecodeFault::NotJson),
         (b"{\"a\":\"\\ud800\"}".as_slice(), DecodeFault::NotJson),
+        (b"{\"a\":\"\\udc00\"}".as_slice(), DecodeFault::NotJson),
+        (
+            b"{\"a\":\"\\ud800\\ud800\"}".as_slice(),
+            DecodeFault::NotJson,
+        ),
+        (b"{\"\\udfff\":1}".as_slice(), DecodeFault::NotJson),
+        (b"{\"a\":\"\\x41\"}".as_slice(), DecodeFault::NotJson),
+        (b"{\"a\":\"\xed\xa0\x80\"}".as_slice(), DecodeFault::NotJson),
+        (b"{\"a\":01}".as_slice(), DecodeFault::NotJson),
+        (b"{\"a\":+1}".as_slice(), DecodeFault::NotJson),
+        (b"{\"a\":1e400}".as_slice(), DecodeFault::NotJson),
+        (b"{\"a\":NaN}".as_slice(), DecodeFault::NotJson),
+        (b"{\"a\":1,}".as_slice(), DecodeFault::NotJson),
+        (b"\xef\xbb\xbf{}".as_slice(), DecodeFault::NotJson),
         (b"{} {}".as_slice(), DecodeFault::NotJson),
         (b"[]".as_slice(), DecodeFault::NotRecord),
         (b"7".as_slice(), DecodeFault::NotRecord),
         (b"{\"a\":1.0}".as_slice(), DecodeFault::Number),
         (b"{\"a\":-0}".as_slice(), DecodeFault::Number),
+        (b"{\"a\":1e2}".as_slice(), DecodeFault::Number),
+        (b"{\"a\":-0.0}".as_slice(), DecodeFault::Number),
         (
             b"{\"a\":9223372036854775808}".as_slice(),
             DecodeFault::Number,
@@ -318,4 +340,33 @@ fn other_records_are_faults(rt: HostRuntime) {
             "{bytes:?}"
         );
     }
+}
+
+// An object with a member that nests so deep that there are so many levels.
+fn nested(alloc: Global, levels: u8) -> Result<Bytes, NoMemory> {
+    let mut bytes = Bytes::new(alloc);
+    bytes.extend(b"{\"a\":")?;
+    for _ in 1..levels {
+        bytes.push(b'[')?;
+    }
+    for _ in 1..levels {
+        bytes.push(b']')?;
+    }
+    bytes.push(b'}')?;
+    Ok(bytes)
+}
+
+#[test]
+fn nesting_is_read_to_a_limit(rt: HostRuntime) -> Result<(), Fail> {
+    for (levels, fault) in [
+        (2, None),
+        (3, Some(DecodeFault::Deep)),
+        (127, Some(DecodeFault::Deep)),
+        (128, Some(DecodeFault::NotJson)),
+    ] {
+        let bytes = nested(rt.alloc(), levels)?;
+        let read = decode_record(rt.alloc(), bytes.as_slice());
+        assert_eq!(rt; read.err(), fault, "{levels} levels");
+    }
+    Ok(())
 }

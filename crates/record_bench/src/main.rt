@@ -1,0 +1,82 @@
+//! Measures how fast a state of five fields is encoded and decoded. The one word is how often. The
+//! rates are written to the standard error, and the state's text to the standard output.
+#![tactic(auto)]
+
+use es_model::{Atom, Decimal, Fields, Moment, NoMemory, Text, Value};
+use es_transcode::{decode_record, encode_record};
+use std::alloc::Global;
+use std::env;
+use std::rt::Clock;
+use std::time::{Duration, Instant};
+use uuid::Uuid;
+
+fn put(alloc: Global, fields: &mut Fields, name: &str, atom: Atom) -> Result<(), NoMemory> {
+    fields.put(Text::from_str(alloc, name)?, Value::One(atom))
+}
+
+// A state with a field of each of five kinds.
+fn state(alloc: Global) -> anyhow::Result<Fields> {
+    let price = Decimal::new(-1234, 2).ok_or_else(|| anyhow::anyhow!("no decimal"))?;
+    let mut fields = Fields::new(alloc);
+    let owner = Text::from_str(alloc, "ann \"the\" owner")?;
+    put(alloc, &mut fields, "owner", Atom::Text(owner))?;
+    put(alloc, &mut fields, "amount", Atom::Int(1_000_000))?;
+    put(alloc, &mut fields, "price", Atom::Decimal(price))?;
+    put(
+        alloc,
+        &mut fields,
+        "account",
+        Atom::Uuid(Uuid::from_u128(1)),
+    )?;
+    let moment = Moment::nearest(1_234_567_890_123_456);
+    put(alloc, &mut fields, "timestamp", Atom::Moment(moment))?;
+    Ok(fields)
+}
+
+// Encodes so often, and tells how many bytes were written.
+fn encode(alloc: Global, fields: &Fields, times: u64) -> anyhow::Result<u64> {
+    let mut bytes = 0u64;
+    for _ in 0..times {
+        let text = encode_record(alloc, fields)?;
+        bytes = bytes.saturating_add(text.as_slice().len() as u64);
+    }
+    Ok(bytes)
+}
+
+// Decodes so often, and tells how many fields were read.
+fn decode(alloc: Global, text: &[u8], times: u64) -> anyhow::Result<u64> {
+    let mut read = 0u64;
+    for _ in 0..times {
+        let fields = decode_record(alloc, text)?;
+        read = read.saturating_add(fields.as_slice().len() as u64);
+    }
+    Ok(read)
+}
+
+// So many in this time, for a second.
+fn rate(count: u64, time: Duration) -> u128 {
+    u128::from(count) * 1_000_000 / time.as_micros().max(1)
+}
+
+fn measure(rt: &(impl Clock + Eprint + Print), alloc: Global, times: u64) -> anyhow::Result<()> {
+    let fields = state(alloc)?;
+    let text = encode_record(alloc, &fields)?;
+    let before = Instant::now(rt)?;
+    let bytes = encode(alloc, &fields, times)?;
+    let encoded = rate(times, before.elapsed(rt)?);
+    let before = Instant::now(rt)?;
+    let read = decode(alloc, text.as_slice(), times)?;
+    let decoded = rate(times, before.elapsed(rt)?);
+    println!(rt; "{}", str::from_utf8(text.as_slice())?)?;
+    println!(rt; "{bytes} bytes, {read} fields")?;
+    eprintln!(rt; "{:>9} {encoded:>12} {decoded:>12}", "evsys")?;
+    Ok(())
+}
+
+fn main(rt: HostRuntime) -> anyhow::Result<()> {
+    let alloc = rt.alloc();
+    for word in env::args(&rt)?.skip(1) {
+        measure(&rt, alloc, word.as_str().parse::<u64>()?)?;
+    }
+    Ok(())
+}
