@@ -12,6 +12,7 @@ use Rattle.es_model.specs.declared.declaration.Edit.{Edit}
 use Rattle.es_model.specs.declared.declaration.System.{System}
 use Rattle.es_model.specs.declared.domain_event.DomainEvent.{DomainEvent}
 use Rattle.es_model.specs.declared.event.StoredEvent.{StoredEvent}
+use Rattle.es_transcode.specs.CanonicalText.{record_text}
 use Rattle.es_transcode.specs.Decoding.{IsDecoded}
 use Rattle.es_transcode.specs.RecordText.{IsRecordText}
 use Rattle.es_transcode.specs.declared.fault.DecodeFault.TheVariants as decode_fault
@@ -59,6 +60,15 @@ state_of None e = stamped e
 state_of (Some p) e = state_record p.0 p.1 e
 
 -- an event as it is stored
+abbrev pub stored : System → DomainEvent → StoredEvent
+stored sys e = record {
+  originator_id = e.originator_id;
+  originator_version = e.originator_version;
+  topic = e.topic;
+  state = record_text (state_of (event_named sys.classes e.topic) e);
+}
+
+-- a stored event is that of an event
 pub record IsStored (sys : System) (e : DomainEvent) (s : StoredEvent) : Type 0 where
   pub originator_id : s.originator_id ≡ e.originator_id
   pub originator_version : s.originator_version ≡ e.originator_version

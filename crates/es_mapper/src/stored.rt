@@ -1,6 +1,6 @@
 ghost use Rattle.std.specs.Prelude.{◌≡◌, ◌<◌, ◌^◌, IfOk, OnOk};
 ghost use Rattle.es_model.specs.Declaration.{event_named};
-ghost use Rattle.es_mapper.specs.Mapping.{version_of, class_value, version_value, with_some, stamped, state_of, IsStored, IsDeclared, IsEvent};
+ghost use Rattle.es_mapper.specs.Mapping.{version_of, class_value, version_value, with_some, stamped, state_of, stored, IsDeclared, IsEvent};
 
 use es_model::{
     Atom, Class, DomainEvent, Duplicate, EventClass, Fields, NoMemory, StoredEvent, System, Text,
@@ -80,7 +80,7 @@ fn state_of(alloc: Global, sys: &System, event: &DomainEvent) -> Result<Fields, 
 
 /// An event as it is stored. Where it is declared, it is the domain event of what it is stored as.
 pub fn to_stored(alloc: Global, sys: &System, event: &DomainEvent) -> Result<StoredEvent, NoMemory>
-    ensures stored { IfOk result (IsStored sys.now event.now) }
+    ensures stored { IfOk result (λ s. s ≡ stored sys.now event.now) }
     ensures back { IfOk result (λ s. IsDeclared sys.now event.now → IsEvent sys.now s event.now) }
 {
     let state = state_of(alloc, sys, event)?;

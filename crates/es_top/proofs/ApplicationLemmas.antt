@@ -71,11 +71,11 @@ records_added capacity app h leader id at es d result new is so =
 
 -- what a follower with turns left makes of an entry that has a meaning
 pub followed_is : (capacity turns : ℕ) (app : Name) (h : List Recording) (used : ℕ) (logs : Logs) (leader : Name) (id : ℕ) (at : ℤ) (e : StoredEvent) → nat_le turns used ≡ false → is_meant leader e ≡ true
-    → slice_get (logs leader) (id - 1) ≡ Some e → followed sample (options capacity turns) app h used logs leader id at ≡ followed_of capacity app h leader id at (decide_event app h e)
+    → slice_get (logs leader) (id - 1) ≡ Some e → followed sample (options capacity turns) app h used logs leader id at ≡ followed_of capacity app h leader id at (decide_event app h at e)
 followed_is capacity turns app h used logs leader id at e free meant there =
-    (λ i. if free i then stops (Turns app turns) else followed_of capacity app h leader id at (decide_entry app h leader id (slice_get (logs leader) (id - 1))))
-    ∙ (λ i. followed_of capacity app h leader id at (decide_entry app h leader id (there i)))
-    ∙ (λ i. followed_of capacity app h leader id at (if meant i then decide_event app h e else unreadable leader id))
+    (λ i. if free i then stops (Turns app turns) else followed_of capacity app h leader id at (decide_entry app h leader id at (slice_get (logs leader) (id - 1))))
+    ∙ (λ i. followed_of capacity app h leader id at (decide_entry app h leader id at (there i)))
+    ∙ (λ i. followed_of capacity app h leader id at (if meant i then decide_event app h at e else unreadable leader id))
 
 takes_of : (f : Followed) (h : List Recording) (used : ℕ) (r : Readings) (result : Result Inserted RunFault) (new : Option (List Recording)) (now : ℕ) (later : Option Readings) → Records f h result new → OnOk result (now ≡ used + 1)
     → later ≡ Some (later_readings r) → Takes f h used r result new now later
@@ -83,24 +83,24 @@ takes_of f h used r (Ok i) new now later so counted read = record { is = so; cou
 takes_of f h used r (Err e) new now later so counted read = so
 
 pub takes_next : (capacity turns : ℕ) (app : Name) (h : List Recording) (used : ℕ) (logs : Logs) (leader : Name) (id : ℕ) (at : ℤ) (e : StoredEvent) (r : Readings) (result : Result Inserted RunFault) (new : Option (List Recording)) (now : ℕ) (later : Option Readings)
-    → nat_le turns used ≡ false → is_meant leader e ≡ true → slice_get (logs leader) (id - 1) ≡ Some e → Records (followed_of capacity app h leader id at (decide_event app h e)) h result new → OnOk result (now ≡ used + 1)
+    → nat_le turns used ≡ false → is_meant leader e ≡ true → slice_get (logs leader) (id - 1) ≡ Some e → Records (followed_of capacity app h leader id at (decide_event app h at e)) h result new → OnOk result (now ≡ used + 1)
     → later ≡ Some (later_readings r) → Takes (followed sample (options capacity turns) app h used logs leader id at) h used r result new now later
 takes_next capacity turns app h used logs leader id at e r result new now later free meant there so counted read =
     takes_of _ h used r result new now later (subst (λ f. Records f h result new) (sym (followed_is capacity turns app h used logs leader id at e free meant there)) so) counted read
 
 -- an account that is new is opened
-own_version : (h : List Recording) (owner : List ℕ) (id : Id) → latest (log h) id ≡ 0 → latest (log h ++ opened owner id ∷ []) id ≡ 1
-own_version h owner id none =
-    latest-append (log h) (opened owner id ∷ []) id ∙ (λ i. none i + one i)
+own_version : (h : List Recording) (owner : List ℕ) (id : Id) (at : ℤ) → latest (log h) id ≡ 0 → latest (log h ++ opened owner id at ∷ []) id ≡ 1
+own_version h owner id at none =
+    latest-append (log h) (opened owner id at ∷ []) id ∙ (λ i. none i + one i)
   where
-    one : latest (opened owner id ∷ []) id ≡ 1
-    one = λ i. length (if (bytes_eq-Decides id id).1 refl i then opened owner id ∷ [] else [])
+    one : latest (opened owner id at ∷ []) id ≡ 1
+    one = λ i. length (if (bytes_eq-Decides id id).1 refl i then opened owner id at ∷ [] else [])
 
 opening_is : (capacity : ℕ) (app : Name) (h : List Recording) (line : List ℕ) (account : OpenAccount) (at : ℤ) → latest (log h) account.id ≡ 0
     → opening_answer capacity app h line account at
-    ≡ accept_unless (too_many capacity (length (log h)) (opened account.owner account.id ∷ [])) capacity app h (recording_of (Command line) at (opened account.owner account.id ∷ [])) account.id
+    ≡ accept_unless (too_many capacity (length (log h)) (opened account.owner account.id at ∷ [])) capacity app h (recording_of (Command line) at (opened account.owner account.id at ∷ [])) account.id
 opening_is capacity app h line account at none =
-    λ i. answer_of capacity app h line account.id at (if is_new i then refused (codes "exists") 0 else events (opened account.owner account.id ∷ []))
+    λ i. answer_of capacity app h line account.id at (if is_new i then refused (codes "exists") 0 else events (opened account.owner account.id at ∷ []))
   where
     is_new : nat_lt 0 (latest (log h) account.id) ≡ false
     is_new = grind (arith, nat_tests)
@@ -123,13 +123,13 @@ not_answered capacity app h r id (fault.Turns name turns) new so = absurd so
 not_answered capacity app h r id (fault.Unreadable name n) new so = absurd so
 
 pub opening_answered : (capacity : ℕ) (app : Name) (h : List Recording) (line : List ℕ) (account : OpenAccount) (at : ℤ) (i : Inserted) (new : Option (List Recording)) → latest (log h) account.id ≡ 0
-    → Adds capacity app h (recording_of (Command line) at (opened account.owner account.id ∷ [])) (Ok i) new → Gives (opening_answer capacity app h line account at) h (Accepted i.recording i.first i.last 1) new
+    → Adds capacity app h (recording_of (Command line) at (opened account.owner account.id at ∷ [])) (Ok i) new → Gives (opening_answer capacity app h line account at) h (Accepted i.recording i.first i.last 1) new
 opening_answered capacity app h line account at i new none so =
     subst (λ a. Gives a h (Accepted i.recording i.first i.last 1) new) (sym (opening_is capacity app h line account at none))
-    (answered capacity app h (recording_of (Command line) at (opened account.owner account.id ∷ [])) account.id i new (own_version h account.owner account.id none) so)
+    (answered capacity app h (recording_of (Command line) at (opened account.owner account.id at ∷ [])) account.id i new (own_version h account.owner account.id at none) so)
 
 pub opening_not_answered : (capacity : ℕ) (app : Name) (h : List Recording) (line : List ℕ) (account : OpenAccount) (at : ℤ) (f : RunFault) (new : Option (List Recording)) → latest (log h) account.id ≡ 0
-    → Adds capacity app h (recording_of (Command line) at (opened account.owner account.id ∷ [])) (Err f) new → Leaves (opening_answer capacity app h line account at) h (Err f) new
+    → Adds capacity app h (recording_of (Command line) at (opened account.owner account.id at ∷ [])) (Err f) new → Leaves (opening_answer capacity app h line account at) h (Err f) new
 opening_not_answered capacity app h line account at f new none so =
     subst (λ a. Leaves a h (Err f) new) (sym (opening_is capacity app h line account at none))
-    (not_answered capacity app h (recording_of (Command line) at (opened account.owner account.id ∷ [])) account.id f new so)
+    (not_answered capacity app h (recording_of (Command line) at (opened account.owner account.id at ∷ [])) account.id f new so)

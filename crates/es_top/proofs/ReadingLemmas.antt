@@ -1,12 +1,16 @@
 -- What is found in a line.
-use Rattle.std.proofs.Common.{◌≡◌, ◌<◌, ◌+◌, ◌-◌, ℕ, min, Bool, true, false, ◌&&◌, List, [], ◌++◌, length, take, drop, if◌then◌else◌, Option, Some, None, refl, sym, ap, ◌∙◌, append_assoc, length-drop, arith, inl, inr, ◌⊎◌, ◌≤◌}
+use Rattle.std.proofs.Common.{◌≡◌, ◌<◌, ◌+◌, ◌-◌, ℕ, zero, suc, nat_le, min, Bool, true, false, ◌&&◌, List, [], ◌∷◌, ◌++◌, length, take, drop, if◌then◌else◌, Option, Some, None, refl, sym, ap, ◌∙◌, append_assoc, length-drop, arith, inl, inr, ◌⊎◌, ◌≤◌}
 use Rattle.std.proofs.lemmas.Bool.{cases_lt}
 use Rattle.std.proofs.lemmas.List.{take_all}
-use Rattle.std.specs.Str.{bytes_eq}
+use Rattle.std.specs.Str.{bytes_eq, IsAscii, IsUtf8}
+use Rattle.std.specs.List.{list_all, slice_index}
+use Rattle.std.proofs.lemmas.Str.{IsUtf8-from_ascii}
+use Rattle.std.proofs.lemmas.Str.Ascii.{IsAscii-nil}
+use Rattle.std.proofs.lemmas.Bool.Decides.{nat_tests}
 use Rattle.uuid.specs.Text.{parsed}
 use Rattle.es_top.specs.declared.request.OpenAccount.{OpenAccount}
 use Rattle.es_top.specs.Requests.{no_request}
-use Rattle.es_top.specs.Sample.{Opening, open_line, owner_in, id_in, is_owner, is_id, opening_in, sample_request, sample_request_of, request_of, decide_line, decide_opening}
+use Rattle.es_top.specs.Sample.{Opening, open_line, owner_in, id_in, is_letter, is_owner, is_id, opening_in, sample_request, sample_request_of, request_of, decide_line, decide_opening}
 use Rattle.es_top.specs.Reading.{Opens}
 
 -- five texts, one after another
@@ -63,5 +67,34 @@ account_opened line owner id text account same_owner same_id whole test read giv
     let known : parsed (id_in line) ≡ Some account.id = ap parsed (sym same_id) ∙ sym read in
     record {
       asked = ap (sample_request_of line) opening ∙ ap (request_of line) known;
-      decided = λ before. ap (decide_line before) opening ∙ (λ k. decide_opening before (sym (given ∙ same_owner) k) (known k));
+      decided = λ before at. ap (λ o. decide_line before o at) opening ∙ (λ k. decide_opening before (sym (given ∙ same_owner) k) (known k) at);
     }
+
+-- an owner is a text
+both : (a b : Bool) → (a && b) ≡ true → (a ≡ true) × (b ≡ true)
+both true b is = (refl, is)
+both false b is = absurd (cc is)
+
+letter_ascii : (b : ℕ) → is_letter b ≡ true → b < 128
+letter_ascii b is = let most : nat_le b 122 ≡ true = (both (nat_le 97 b) (nat_le b 122) is).1 in grind (arith, nat_tests)
+
+first_ascii : (b : ℕ) (rest : List ℕ) → b < 128 → IsAscii rest → IsAscii (b ∷ rest)
+first_ascii b rest small ascii = by_place
+  where
+    by_place : (i : ℕ) → slice_index (b ∷ rest) i < 128
+    by_place zero = small
+    by_place (suc i) = ascii i
+
+letters_ascii : (owner : List ℕ) → list_all is_letter owner ≡ true → IsAscii owner
+letters_ascii [] letters = IsAscii-nil
+letters_ascii (b ∷ owner) letters =
+    let parts = both (is_letter b) (list_all is_letter owner) letters in
+    first_ascii b owner (letter_ascii b parts.0) (letters_ascii owner parts.1)
+
+pub letters_text : (owner : List ℕ) → list_all is_letter owner ≡ true → IsUtf8 owner
+letters_text owner letters = IsUtf8-from_ascii owner (letters_ascii owner letters)
+
+pub owner_letters : (a b : Bool) (owner : List ℕ) → (a && (is_owner owner && b)) ≡ true → list_all is_letter owner ≡ true
+owner_letters a b owner test =
+    let inner = (both a (is_owner owner && b) test).1 in
+    (both (nat_le (length owner) 40) (list_all is_letter owner) (both (is_owner owner) b inner).0).1

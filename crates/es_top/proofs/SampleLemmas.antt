@@ -10,7 +10,7 @@ use Rattle.es_top.proofs.AmongLemmas.{contains-here, contains-later, contains-ea
 pub sample-local : IsLocal sample
 sample-local = record {
   commands = λ app before logs others asked at. refl;
-  notifications = λ app before logs others leader id at same. ap (λ o. decide_entry app before leader id o) same;
+  notifications = λ app before logs others leader id at same. ap (λ o. decide_entry app before leader id at o) same;
 }
 
 kept_id : (line : List ℕ) (o : Option (List ℕ)) (asked : List ℕ) (app : Name) (id : Id) (expect : Option ℕ) → request_of line o ≡ command app asked id expect → (line ≡ asked) × (bank ≡ app)

@@ -206,7 +206,7 @@ turn_opening : (o : Options) (s : State) (t : List ℕ) (account : OpenAccount) 
     → turn_at sample o σ.openings (at_line s (text t) σ) ≡ command_turn (at_line s (text t) σ) σ.lines bank (opening_answer o.capacity bank s.bank_history t account (first_reading s.readings))
 turn_opening o s t account opens σ =
     ap (request_turn sample o (at_line s (text t) σ) σ.lines) opens.asked
-    ∙ (λ i. command_turn (at_line s (text t) σ) σ.lines bank (answer_of o.capacity bank s.bank_history t account.id (first_reading s.readings) (opens.decided s.bank_history i)))
+    ∙ (λ i. command_turn (at_line s (text t) σ) σ.lines bank (answer_of o.capacity bank s.bank_history t account.id (first_reading s.readings) (opens.decided s.bank_history (first_reading s.readings) i)))
 
 turn_accepts : (o : Options) (s : State) (t : List ℕ) (r : Recording) (told : Reply) (σ : Setting)
     → command_turn (at_line s (text t) σ) σ.lines bank (accepts r told) ≡ goes_on (record { added = (bank, r) ∷ []; reply = Some told }) (after_reply (banked s r) (bank ∷ []) σ)
@@ -257,7 +257,7 @@ module _ (o : Options) (s : State) (H : State → Type 0) (t : List ℕ) (accoun
 
   pub line_opened : (told : Reply) (result : Result (Unit {0}) Stop) (new : Option (List Recording)) → Gives (opening_answer o.capacity bank s.bank_history t account (first_reading s.readings)) s.bank_history told new → Answers told result new
       → AnswersLine o s H (text t) b a u w result
-  line_opened told result new gives so = by_decision told result new (decide_opening s.bank_history account.owner (Some account.id)) refl gives so
+  line_opened told result new gives so = by_decision told result new (decide_opening s.bank_history account.owner (Some account.id) (first_reading s.readings)) refl gives so
 
   -- the bank failed to answer
   line_ended : (e : End) → opening_answer o.capacity bank s.bank_history t account (first_reading s.readings) ≡ ends e → b ≡ Some s.bank_history → a ≡ Some s.audit_history → w ≡ u → Ended o (at_line s (text t)) b a u w e

@@ -47,7 +47,7 @@ prompt_none prompted (e ∷ es) = refl
 followed_entry : (options : Options) (app : Name) (h : List Recording) (used : ℕ) (logs others : Logs) (leader : Name) (id : ℕ) (at : ℤ) (e : StoredEvent) → slice_get (logs leader) (id - 1) ≡ Some e
     → slice_get (others leader) (id - 1) ≡ Some e → followed sample options app h used logs leader id at ≡ followed sample options app h used others leader id at
 followed_entry options app h used logs others leader id at e p q =
-    λ i. if nat_le options.turns used then stops (Turns app options.turns) else followed_of options.capacity app h leader id at (decide_entry app h leader id ((p ∙ sym q) i))
+    λ i. if nat_le options.turns used then stops (Turns app options.turns) else followed_of options.capacity app h leader id at (decide_entry app h leader id at ((p ∙ sym q) i))
 
 -- what audit makes of the next notification of the bank
 abbrev pub follows_in : Options → State → Followed

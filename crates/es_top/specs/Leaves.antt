@@ -46,7 +46,7 @@ MayFailToAdd (fault.Unreadable name id) = ⊥
 
 -- the answer where this account is to be opened
 abbrev pub opening_answer : ℕ → Name → List Recording → List ℕ → OpenAccount → ℤ → Answer
-opening_answer capacity app h line account at = answer_of capacity app h line account.id at (decide_opening h account.owner (Some account.id))
+opening_answer capacity app h line account at = answer_of capacity app h line account.id at (decide_opening h account.owner (Some account.id) at)
 
 -- a reply was given, and what belongs to it was added
 abbrev pub Gives : Answer → List Recording → Reply → Option (List Recording) → Type 0
@@ -66,15 +66,15 @@ Leaves a h (Ok reply) new = Gives a h reply new
 Leaves a h (Err f) new = ByFault f (λ e. (a ≡ ends e) × (new ≡ Some h)) (MayAdd a h new) (new ≡ Some h)
 
 -- the events that a policy gives, or the fault by which it refuses
-abbrev pub Decides : Name → List Recording → Name → ℕ → StoredEvent → Result (List StoredEvent) RunFault → Type 0
-Decides app h leader id e (Ok es) = decide_event app h e ≡ events es
-Decides app h leader id e (Err (fault.Refused name from n recordings code rule)) =
-    (decide_event app h e ≡ refused code rule) × (name ≡ app) × (from ≡ leader) × (n ≡ id) × (recordings ≡ length h)
-Decides app h leader id e (Err fault.Recorder) = Unit {0}
-Decides app h leader id e (Err fault.NoMemory) = Unit {0}
-Decides app h leader id e (Err (fault.Full name last most)) = ⊥
-Decides app h leader id e (Err (fault.Turns name turns)) = ⊥
-Decides app h leader id e (Err (fault.Unreadable name n)) = ⊥
+abbrev pub Decides : Name → List Recording → Name → ℕ → ℤ → StoredEvent → Result (List StoredEvent) RunFault → Type 0
+Decides app h leader id at e (Ok es) = decide_event app h at e ≡ events es
+Decides app h leader id at e (Err (fault.Refused name from n recordings code rule)) =
+    (decide_event app h at e ≡ refused code rule) × (name ≡ app) × (from ≡ leader) × (n ≡ id) × (recordings ≡ length h)
+Decides app h leader id at e (Err fault.Recorder) = Unit {0}
+Decides app h leader id at e (Err fault.NoMemory) = Unit {0}
+Decides app h leader id at e (Err (fault.Full name last most)) = ⊥
+Decides app h leader id at e (Err (fault.Turns name turns)) = ⊥
+Decides app h leader id at e (Err (fault.Unreadable name n)) = ⊥
 
 -- these are all causes for which a policy gives no events
 abbrev pub MayRefuse : RunFault → Type 0

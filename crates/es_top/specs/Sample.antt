@@ -8,7 +8,16 @@ use Rattle.es_model.specs.declared.event.Recording.{Recording}
 use Rattle.es_model.specs.declared.event.Cause.{Cause}
 use Rattle.es_model.specs.declared.event.Cause.TheVariants.{Command, Notification}
 use Rattle.es_model.specs.History.{log, latest}
-use Rattle.es_model.specs.Values.{Name, Id}
+use Rattle.es_model.specs.Values.{Name, Id, Record}
+use Rattle.es_model.specs.declared.declaration.Class.{Class}
+use Rattle.es_model.specs.declared.declaration.EventClass.{EventClass}
+use Rattle.es_model.specs.declared.declaration.System.{System}
+use Rattle.es_model.specs.declared.value.Atom.TheVariants as atom
+use Rattle.es_model.specs.declared.value.AtomKind.TheVariants as atom_kind
+use Rattle.es_model.specs.declared.value.Kind.{Kind}
+use Rattle.es_model.specs.declared.value.Kind.TheVariants as kind
+use Rattle.es_model.specs.declared.value.Value.TheVariants as value
+use Rattle.es_mapper.specs.Mapping.{stored}
 use Rattle.es_top.specs.Decision.{Rules, Logs, Decision, events, refused, unreadable}
 use Rattle.es_top.specs.Requests.{Request, command, no_request}
 
@@ -76,48 +85,73 @@ sample_request_of line (Some opening) = request_of line (parsed opening.id)
 abbrev pub sample_request : List ℕ → Request
 sample_request line = sample_request_of line (opening_in line)
 
--- the event of an account that is opened; its state is the owner
-abbrev pub opened : List ℕ → Id → StoredEvent
-opened owner id = record { originator_id = id; originator_version = 1; topic = codes "Account.Opened"; state = owner }
+-- the piece of the sample's declaration by which states are written: its two classes, each with its first event
+abbrev pub event_class : Name → List (Name × Kind) → EventClass
+event_class topic fields = record { topic = topic; fields = fields; upcasts = []; assigns = [] }
+
+abbrev pub owner_kinds : List (Name × Kind)
+owner_kinds = (codes "owner", kind.One atom_kind.Text) ∷ []
+
+abbrev pub class_of : Name → EventClass → Class
+class_of name created = record { name = name; version = 1; interval = None; fields = []; created = created; events = []; commands = [] }
+
+abbrev pub declared : System
+declared = record {
+  apps = [];
+  classes = class_of (codes "Account") (event_class (codes "Account.Opened") owner_kinds)
+      ∷ class_of (codes "Statement") (event_class (codes "Statement.Started") []) ∷ [];
+  pipes = [];
+}
+
+-- the first event of an originator, as it is stored
+abbrev pub first_event : Name → Id → ℤ → Record → StoredEvent
+first_event topic id at fields = stored declared (record { originator_id = id; originator_version = 1; timestamp = at; topic = topic; fields = fields })
+
+-- the event of an account that is opened
+abbrev pub owner_fields : List ℕ → Record
+owner_fields owner = (codes "owner", value.One (atom.Text owner)) ∷ []
+
+abbrev pub opened : List ℕ → Id → ℤ → StoredEvent
+opened owner id at = first_event (codes "Account.Opened") id at (owner_fields owner)
 
 -- an account is opened where the application has no event of its id; whether such an event has a meaning isn't looked at, since over empty openings each has
-abbrev pub decide_opening : List Recording → List ℕ → Option Id → Decision
-decide_opening before owner None = refused [] 0
-decide_opening before owner (Some id) = if nat_lt 0 (latest (log before) id) then refused (codes "exists") 0 else events (opened owner id ∷ [])
+abbrev pub decide_opening : List Recording → List ℕ → Option Id → ℤ → Decision
+decide_opening before owner None at = refused [] 0
+decide_opening before owner (Some id) at = if nat_lt 0 (latest (log before) id) then refused (codes "exists") 0 else events (opened owner id at ∷ [])
 
-abbrev pub decide_line : List Recording → Option Opening → Decision
-decide_line before None = refused [] 0
-decide_line before (Some opening) = decide_opening before opening.owner (parsed opening.id)
+abbrev pub decide_line : List Recording → Option Opening → ℤ → Decision
+decide_line before None at = refused [] 0
+decide_line before (Some opening) at = decide_opening before opening.owner (parsed opening.id) at
 
--- the event of a statement that is started; its state is empty
-abbrev pub started : Id → StoredEvent
-started id = record { originator_id = id; originator_version = 1; topic = codes "Statement.Started"; state = [] }
+-- the event of a statement that is started; it has no fields
+abbrev pub started : Id → ℤ → StoredEvent
+started id at = first_event (codes "Statement.Started") id at []
 
 -- an entry has a meaning where it is an opened account in the bank, or a started statement in audit
 abbrev pub is_meant : Name → StoredEvent → Bool
 is_meant app e = (bytes_eq app bank && bytes_eq e.topic (codes "Account.Opened")) || (bytes_eq app audit && bytes_eq e.topic (codes "Statement.Started"))
 
 -- a statement is started where the application has no event of its id; else the rule, the first, refuses
-abbrev pub decide_starting : List Recording → Id → Decision
-decide_starting before id = if nat_lt 0 (latest (log before) id) then refused (codes "exists") 1 else events (started id ∷ [])
+abbrev pub decide_starting : List Recording → Id → ℤ → Decision
+decide_starting before id at = if nat_lt 0 (latest (log before) id) then refused (codes "exists") 1 else events (started id at ∷ [])
 
 -- the policy of an application has a rule about an event
 abbrev pub has_rule : Name → StoredEvent → Bool
 has_rule app e = bytes_eq app audit && bytes_eq e.topic (codes "Account.Opened")
 
 -- each opened account starts a statement with the same id in audit; nothing else follows from an event
-abbrev pub decide_event : Name → List Recording → StoredEvent → Decision
-decide_event app before e = if has_rule app e then decide_starting before e.originator_id else events []
+abbrev pub decide_event : Name → List Recording → ℤ → StoredEvent → Decision
+decide_event app before at e = if has_rule app e then decide_starting before e.originator_id at else events []
 
 -- a leader's entry, where it is there and has a meaning; ids count from 1
-abbrev pub decide_entry : Name → List Recording → Name → ℕ → Option StoredEvent → Decision
-decide_entry app before leader id None = unreadable leader id
-decide_entry app before leader id (Some e) = if is_meant leader e then decide_event app before e else unreadable leader id
+abbrev pub decide_entry : Name → List Recording → Name → ℕ → ℤ → Option StoredEvent → Decision
+decide_entry app before leader id at None = unreadable leader id
+decide_entry app before leader id at (Some e) = if is_meant leader e then decide_event app before at e else unreadable leader id
 
 -- a command is decided in the bank alone, and no cause but the text of such a line comes to be decided
 abbrev pub sample_decide : Name → List Recording → Logs → Cause → ℤ → Decision
-sample_decide app before logs (Command text) at = if bytes_eq app bank then decide_line before (opening_in text) else refused [] 0
-sample_decide app before logs (Notification leader id) at = decide_entry app before leader id (slice_get (logs leader) (id - 1))
+sample_decide app before logs (Command text) at = if bytes_eq app bank then decide_line before (opening_in text) at else refused [] 0
+sample_decide app before logs (Notification leader id) at = decide_entry app before leader id at (slice_get (logs leader) (id - 1))
 
 abbrev pub sample : Rules
 sample = record { names = audit ∷ bank ∷ []; pairs = (bank, audit) ∷ []; request = sample_request; decide = sample_decide }

@@ -7,10 +7,11 @@ ghost use Rattle.es_recorder.specs.Insert.{IsInsertable};
 ghost use Rattle.es_top.specs.Answer.{recording_of as recording_at, options, followed, followed_of};
 ghost use Rattle.es_top.specs.Decision.{Logs};
 ghost use Rattle.es_top.specs.Leaves.{Fits, Adds, MayFailToAdd, Leaves, opening_answer, Processes, Takes, Records, Decides, MayRefuse, IsRecorded};
-ghost use Rattle.es_top.specs.Sample.{sample, opened, started as started_event, is_meant as meaning_test, has_rule as rule_test, decide_event};
+ghost use Rattle.es_top.specs.Sample.{sample, opened, is_meant as meaning_test, has_rule as rule_test, decide_event};
 
 use crate::faults::RunFault;
 use crate::request::OpenAccount;
+use crate::states;
 use crate::texts::Reply;
 use es_io::Clock;
 use es_model::{
@@ -19,7 +20,6 @@ use es_model::{
 };
 use es_recorder::{InsertFault, Inserted, ProcessRecorder};
 use std::alloc::Global;
-use uuid::Uuid;
 
 /// An application that was opened.
 #[derive(Drop)]
@@ -50,32 +50,15 @@ fn opening(
     account: OpenAccount,
     at: Moment,
 ) -> Result<Recording, NoMemory>
-    ensures { IfOk result (λ r. r ≡ recording_at (Cause.Command line.now) at (opened account.owner account.id ∷ [])) }
+    ensures { IfOk result (λ r. r ≡ recording_at (Cause.Command line.now) at (opened account.owner account.id at ∷ [])) }
 {
     let mut events = StoredEvents::new(alloc);
-    events.push(StoredEvent {
-        originator_id: account.id,
-        originator_version: 1,
-        topic: Text::from_str(alloc, "Account.Opened")?,
-        state: account.owner,
-    })?;
+    events.push(states::opened(alloc, account.owner, account.id, at)?)?;
     let text = Bytes::from_slice(alloc, line)?;
     Ok(Recording {
         cause: Cause::Command { text },
         at,
         events,
-    })
-}
-
-// The event of a statement that is started.
-fn started(alloc: Global, id: Uuid) -> Result<StoredEvent, NoMemory>
-    ensures { IfOk result (λ e. e ≡ started_event id) }
-{
-    Ok(StoredEvent {
-        originator_id: id,
-        originator_version: 1,
-        topic: Text::from_str(alloc, "Statement.Started")?,
-        state: Bytes::new(alloc),
     })
 }
 
@@ -292,7 +275,7 @@ impl<R: ProcessRecorder> Application<R> {
         requires free { self.old.used < self.old.turns }
         requires next { IfSome (R.history self.old.recorder) (λ h. notification.now.id ≡ tracked_in h leader.now + 1) }
         ensures records { (h : List Recording) → R.history self.old.recorder ≡ Some h
-            → Records (followed_of (R.capacity self.old.recorder) self.old.name h leader.now notification.now.id at (decide_event self.old.name h notification.now.event)) h result (R.history self.new.recorder) }
+            → Records (followed_of (R.capacity self.old.recorder) self.old.name h leader.now notification.now.id at (decide_event self.old.name h at notification.now.event)) h result (R.history self.new.recorder) }
         ensures counted { OnOk result (self.new.used ≡ self.old.used + 1) }
         ensures uncounted { OnErr result (self.new.used ≡ self.old.used) }
         ensures same_name { self.new.name ≡ self.old.name }
@@ -301,7 +284,7 @@ impl<R: ProcessRecorder> Application<R> {
         ensures later { R.faults self.old.recorder ≤ R.faults self.new.recorder }
         ensures failed { IsErrOf result RunFault.Recorder → Rose (R.faults self.old.recorder) (R.faults self.new.recorder) }
     {
-        let events = match self.decide(alloc, leader, notification) {
+        let events = match self.decide(alloc, leader, notification, at) {
             Ok(events) => events,
             Err(fault) => return Err(fault),
         };
@@ -325,8 +308,9 @@ impl<R: ProcessRecorder> Application<R> {
         alloc: Global,
         leader: &Text,
         notification: &Notification,
+        at: Moment,
     ) -> Result<StoredEvents, RunFault>
-        ensures decides { (h : List Recording) → R.history self.old.recorder ≡ Some h → Decides self.old.name h leader.now notification.now.id notification.now.event result }
+        ensures decides { (h : List Recording) → R.history self.old.recorder ≡ Some h → Decides self.old.name h leader.now notification.now.id at notification.now.event result }
         ensures small { IfOk result (λ es. All (λ e. e.originator_version < 2 ^ 63) es) }
         ensures faults { IfErr result MayRefuse }
         ensures same_history { R.history self.new.recorder ≡ R.history self.old.recorder }
@@ -346,7 +330,7 @@ impl<R: ProcessRecorder> Application<R> {
             let recordings = self.recorder.recordings()?;
             return Err(self.refusal(alloc, leader, notification.id, recordings));
         }
-        events.push(started(alloc, id)?)?;
+        events.push(states::started(alloc, id, at)?)?;
         Ok(events)
     }
 

@@ -6,6 +6,7 @@ mod applications;
 mod faults;
 mod request;
 mod run;
+mod states;
 mod texts;
 mod top;
 

@@ -1,10 +1,10 @@
-ghost use Rattle.std.specs.Prelude.{◌≡◌, ◌&&◌, IfOk};
+ghost use Rattle.std.specs.Prelude.{◌≡◌, ◌&&◌, true, IfOk};
 ghost use Rattle.std.specs.Str.{bytes_eq};
 ghost use Rattle.es_top.specs.Sample.{open_line, owner_in, id_in, is_letter as letter_test, is_digit as digit_test, is_owner as owner_test, is_id as id_test};
 ghost use Rattle.std.specs.List.{list_all};
 ghost use Rattle.es_top.specs.Reading.{ReadsOpening};
 
-use es_model::{Bytes, NoMemory};
+use es_model::{Bytes, NoMemory, Text};
 use std::alloc::Global;
 use uuid::Uuid;
 
@@ -21,7 +21,7 @@ const FIXED_LEN: usize = HEAD.len() + MIDDLE.len() + TAIL.len() + ID_LEN;
 /// The command to open an account.
 #[derive(Debug, Drop)]
 pub struct OpenAccount {
-    pub owner: Bytes,
+    pub owner: Text,
     pub id: Uuid,
 }
 
@@ -99,6 +99,17 @@ fn is_opening(line: &[u8], text: &[u8], owner: &[u8], id: &[u8]) -> bool
     line == text && (is_owner(owner) && is_id(id))
 }
 
+// The letters of an owner as a text.
+fn text_of(alloc: Global, owner: &[u8]) -> Result<Text, NoMemory>
+    requires { list_all letter_test owner.now ≡ true }
+    ensures { IfOk result (λ text. text ≡ owner.now) }
+{
+    match str::from_utf8(owner) {
+        Ok(text) => Text::from_str(alloc, text),
+        Err(_) => unreachable!(),
+    }
+}
+
 /// The account that a line opens, where it is exactly the line of that account.
 pub fn read_opening(alloc: Global, line: &[u8]) -> Result<Option<OpenAccount>, NoMemory>
     ensures { IfOk result (ReadsOpening line.now) }
@@ -111,7 +122,7 @@ pub fn read_opening(alloc: Global, line: &[u8]) -> Result<Option<OpenAccount>, N
     }
     match Uuid::try_parse_ascii(id) {
         Ok(id) => Ok(Some(OpenAccount {
-            owner: Bytes::from_slice(alloc, owner)?,
+            owner: text_of(alloc, owner)?,
             id,
         })),
         Err(_) => Ok(None),

@@ -5,8 +5,8 @@ use crate::{End, Reply, Status, end_text, evsys_single, reply_text};
 use es_io::{ListClock, MemoryDocument, MemorySink, MemorySource};
 use es_memory::{Content, Contents, MemoryRecorder, MemoryStores, are_formed, is_formed};
 use es_model::{
-    Bytes, CallFault, Calls, Cause, Counts, List, Moment, Moments, NoMemory, Notification,
-    Recording, Recordings, Snapshots, StoredEvent, StoredEvents, Text,
+    Bytes, CallFault, Calls, Cause, Counts, Duplicate, List, Moment, Moments, NoMemory,
+    Notification, Recording, Recordings, Snapshots, StoredEvent, StoredEvents, Text,
 };
 use es_recorder::{ApplicationRecorder, ProcessRecorder, Stores};
 use std::alloc::Global;
@@ -183,13 +183,25 @@ fn ran(
     input: &[&str],
     given: Given<'_>,
 ) -> Result<(u8, Vec<u8>, [Held; 2]), CallFault> {
-    let (reads, writes, opens, room, occupied) = given;
+    let mut stores = stores(alloc, given.4, given.2)?;
+    let (code, bytes) = ran_over(alloc, words, input, given, &mut stores)?;
+    Ok((code, bytes, left(alloc, &mut stores)?))
+}
+
+// The same over these stores.
+fn ran_over(
+    alloc: Global,
+    words: &[&str],
+    input: &[&str],
+    given: Given<'_>,
+    stores: &mut MemoryStores,
+) -> Result<(u8, Vec<u8>), CallFault> {
+    let (reads, writes, _, room, _) = given;
     let texts = texts(alloc, words)?;
     let mut system = MemoryDocument::new(alloc, List::new(alloc), List::new(alloc));
     let bytes = Bytes::from_slice(alloc, joined(alloc, input)?.as_bytes())?;
     let mut lines = MemorySource::new(bytes, calls(alloc, reads)?);
     let mut out = MemorySink::new(alloc, room, calls(alloc, writes)?)?;
-    let mut stores = stores(alloc, occupied, opens)?;
     let mut clock = clock(alloc, &[])?;
     let status = evsys_single(
         alloc,
@@ -197,12 +209,42 @@ fn ran(
         &mut system,
         &mut lines,
         &mut out,
-        &mut stores,
+        stores,
         &mut clock,
     );
     let bytes = written(alloc, &out)?;
-    Ok((status.code(), bytes, left(alloc, &mut stores)?))
+    Ok((status.code(), bytes))
 }
+
+// The state of the first event of an application's log.
+fn first_state(alloc: Global, stores: &mut MemoryStores, app: &str) -> Result<Bytes, Fail> {
+    let app = Text::from_str(alloc, app)?;
+    let mut recorder = stores.open(None, &app, 1000)?;
+    let notifications = recorder.select_notifications(1, 1)?;
+    let Some(first) = notifications.as_slice().first() else {
+        return Err("no notification".into());
+    };
+    Ok(first.event.state.copy()?)
+}
+
+#[test]
+fn states_are_records(rt: HostRuntime) -> Result<(), Fail> {
+    let alloc = rt.alloc();
+    let mut stores = stores(alloc, "", &[])?;
+    let (code, _) = ran_over(alloc, &["run", "sample"], &[OPEN], PLAIN, &mut stores)?;
+    assert_eq!(rt; code, 0);
+    let opened = first_state(alloc, &mut stores, "bank")?;
+    assert!(rt; opened.as_slice() == OPENED_STATE.as_bytes());
+    let started = first_state(alloc, &mut stores, "audit")?;
+    assert!(rt; started.as_slice() == STARTED_STATE.as_bytes());
+    Ok(())
+}
+
+const OPENED_STATE: &str =
+    "{\"originator_topic\":\"Account\",\"owner\":\"ann\",\"timestamp\":{\"_data_\":\"1970-01-01T00:00:00+00:00\",\"_type_\":\"datetime_iso\"}}";
+
+const STARTED_STATE: &str =
+    "{\"originator_topic\":\"Statement\",\"timestamp\":{\"_data_\":\"1970-01-01T00:00:00+00:00\",\"_type_\":\"datetime_iso\"}}";
 
 // A program that is always out of memory meets its contract, and fails here: there is memory, so
 // the account is opened, its statement is started, and the run ends well.
@@ -504,8 +546,8 @@ fn drained(
 }
 
 // Whether a recording starts the statement of the account with this number, which is the bank's
-// notification with the same number, at this moment.
-fn starts_statement(recording: &Recording, number: u64, micros: i64) -> bool {
+// notification with the same number, at this moment, in this state.
+fn starts_statement(recording: &Recording, number: u64, micros: i64, state: &str) -> bool {
     let Cause::Notification { leader, id } = &recording.cause else {
         return false;
     };
@@ -518,7 +560,7 @@ fn starts_statement(recording: &Recording, number: u64, micros: i64) -> bool {
         && event.originator_id == Uuid::from_u128(u128::from(number))
         && event.originator_version == 1
         && event.topic.as_str() == "Statement.Started"
-        && event.state.as_slice().is_empty()
+        && event.state.as_slice() == state.as_bytes()
 }
 
 // The turns of audit, the leaders whose followers are drained, how it ends, and how many recordings
@@ -531,6 +573,12 @@ const DRAINS: [(u64, &[&str], &str, u64); 6] = [
     (9, &[], "drained", 0),
     (9, &["audit"], "drained", 0),
 ];
+
+const STARTED_AT_10: &str =
+    "{\"originator_topic\":\"Statement\",\"timestamp\":{\"_data_\":\"1970-01-01T00:00:00.000010+00:00\",\"_type_\":\"datetime_iso\"}}";
+
+const STARTED_AT_20: &str =
+    "{\"originator_topic\":\"Statement\",\"timestamp\":{\"_data_\":\"1970-01-01T00:00:00.000020+00:00\",\"_type_\":\"datetime_iso\"}}";
 
 #[test]
 fn followers_are_drained(rt: HostRuntime) -> Result<(), Fail> {
@@ -548,8 +596,12 @@ fn followers_are_drained(rt: HostRuntime) -> Result<(), Fail> {
         assert_eq!(rt; held(&mut audit.recorder, &name)?, (count, count, count));
         assert_eq!(rt; audit.used, count);
         let history = into_history(audit);
-        for (recording, (number, micros)) in history.as_slice().iter().zip([(1, 10), (2, 20)]) {
-            assert!(rt; starts_statement(recording, number, micros), "{number}");
+        let wanted = [(1, 10, STARTED_AT_10), (2, 20, STARTED_AT_20)];
+        for (recording, (number, micros, state)) in history.as_slice().iter().zip(wanted) {
+            assert!(rt;
+                starts_statement(recording, number, micros, state),
+                "{number}"
+            );
         }
     }
     Ok(())

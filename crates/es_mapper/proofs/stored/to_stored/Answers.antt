@@ -10,5 +10,5 @@ returns-clause-back c = λ d.
       originator_id = search rules;
       originator_version = search rules;
       topic = c.in_ok-copy.ensures;
-      state = subst (λ (r : Record). IsRecordText r c.in_ok-encode_record.field-0) c.in_ok-state.ensures c.in_ok-encode_record.ensures;
+      state = subst (λ (r : Record). IsRecordText r c.in_ok-encode_record.field-0) c.in_ok-state.ensures c.in_ok-encode_record.ensures.record;
     }
