@@ -188,7 +188,7 @@ fn states(rt: HostRuntime) -> Result<(), Fail> {
     ] {
         let event = event(rt.alloc(), topic, fields)?;
         let stored = to_stored(rt.alloc(), &sys, &event)?;
-        assert_eq!(rt; stored.state.as_slice(), state, "{topic}");
+        assert_eq!(rt; stored.state.as_slice(), state);
         assert_eq!(rt; stored.topic.as_str(), topic);
         assert_eq!(rt; stored.originator_id, Uuid::from_u128(1));
         assert_eq!(rt; stored.originator_version, 2);
