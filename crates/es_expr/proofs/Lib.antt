@@ -1,0 +1,10 @@
+pub mod CheckedLemmas
+pub mod EnvironmentsLemmas
+pub mod EscapedLemmas
+pub mod FindsLemmas
+pub mod EqualityLemmas
+pub mod FittingLemmas
+pub mod RulesLemmas
+pub mod SoundLemmas
+pub mod TopicLemmas
+pub mod UniqueLemmas

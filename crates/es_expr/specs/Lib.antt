@@ -1,0 +1,12 @@
+pub mod Checked
+pub mod Environments
+pub mod Finds
+pub mod Kinds
+pub mod Limits
+pub mod Meaning
+pub mod Misfits
+pub mod Operators
+pub mod Outcome
+pub mod Shapes
+pub mod Sound
+pub mod Weights
