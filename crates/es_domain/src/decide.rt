@@ -1,0 +1,47 @@
+ghost use Rattle.std.specs.Prelude.{◌≡◌, IfOk};
+ghost use Rattle.es_expr.specs.Checked.{IsCheckedSystem};
+ghost use Rattle.es_domain.specs.Decision.{command_decision, decision_of, DecidesTold, AreNewEvents, IsOfCommand};
+ghost use Rattle.es_domain.specs.Effect.{command_named};
+ghost use Rattle.es_domain.specs.Readings.{TellsOnTold, FindHasCause};
+
+use crate::effect::{Effect, effect_on};
+use crate::{Aggregates, Command, Decision, FindFault};
+use es_model::{Moment, NoMemory, System};
+use std::alloc::Global;
+
+// The decision of a command's effect.
+fn decision_of(effect: Effect) -> Decision
+    ensures { result ≡ decision_of 0 effect }
+{
+    match effect {
+        Effect::Changed(mut aggregate) => Decision::Events(aggregate.collect_events()),
+        Effect::Refused(code) => Decision::Refused { code, rule: 0 },
+    }
+}
+
+/// What a command decides.
+pub fn decide_command<A: Aggregates>(
+    alloc: Global,
+    sys: &System,
+    reader: &mut A,
+    command: &Command,
+    at: Moment,
+) -> Result<Decision, FindFault>
+    requires checked { IsCheckedSystem sys.now }
+    requires system { A.system reader.old ≡ sys.now }
+    requires command { IsOfCommand (command_named sys.now command.now.class command.now.name) command.now.args }
+    ensures decision { DecidesTold sys.now (A.told reader.new) (command_decision sys.now command.now at) result }
+    ensures events { IfOk result (AreNewEvents sys.now) }
+    ensures tells { TellsOnTold (A.told reader.old) (A.told reader.new) }
+    ensures same_system { A.system reader.new ≡ A.system reader.old }
+    ensures cause { FindHasCause (A.faults reader.old) (A.faults reader.new) result }
+{
+    let found = match reader.find(command.id) {
+        Ok(found) => found,
+        Err(fault) => return Err(fault),
+    };
+    match effect_on(alloc, sys, command, at, found) {
+        Ok(effect) => Ok(decision_of(effect)),
+        Err(NoMemory) => Err(FindFault::NoMemory),
+    }
+}
