@@ -30,7 +30,7 @@ use Rattle.es_domain.proofs.Projections.{one_topic}
 use Rattle.es_domain.proofs.ValuesLemmas.{rest-is}
 
 -- what an event leaves of an aggregate besides its fields
-abbrev Keeps : Aggregate → DomainEvent → Aggregate → Type 0
+abbrev pub Keeps : Aggregate → DomainEvent → Aggregate → Type 0
 Keeps a e b = (b.class ≡ a.class) × (b.version ≡ e.originator_version) × (b.pending ≡ a.pending)
 
 changed-keeps : (a : Aggregate) (e : DomainEvent) (o : Option Record) (b : Aggregate) → changed_to a e o ≡ Ok b → Keeps a e b
@@ -39,19 +39,19 @@ changed-keeps a e (Some fields) b is =
     let same : record a { version = e.originator_version; modified_on = e.timestamp; fields = fields } ≡ b = cc in
     (sym (ap (λ (x : Aggregate). x.class) same), sym (ap (λ (x : Aggregate). x.version) same), sym (ap (λ (x : Aggregate). x.pending) same))
 
-chosen : (p q : Bool) (x f g : Result Aggregate ApplyFault) (b : Aggregate) → (f ≡ Ok b → ⊥) → (g ≡ Ok b → ⊥) → (if p then (if q then x else f) else g) ≡ Ok b → x ≡ Ok b
+pub chosen : (p q : Bool) (x f g : Result Aggregate ApplyFault) (b : Aggregate) → (f ≡ Ok b → ⊥) → (g ≡ Ok b → ⊥) → (if p then (if q then x else f) else g) ≡ Ok b → x ≡ Ok b
 chosen true true x f g b nf ng is = is
 chosen true false x f g b nf ng is = absurd (nf is)
 chosen false q x f g b nf ng is = absurd (ng is)
 
-stepped-keeps : (a : Aggregate) (o : Option EventClass) (e : DomainEvent) (b : Aggregate) → stepped_by a o e ≡ Ok b → Keeps a e b
+pub stepped-keeps : (a : Aggregate) (o : Option EventClass) (e : DomainEvent) (b : Aggregate) → stepped_by a o e ≡ Ok b → Keeps a e b
 stepped-keeps a None e b is = absurd (cc is)
 stepped-keeps a (Some k) e b is =
     changed-keeps a e (fields_then a k e.fields e.timestamp) b
     (chosen (bytes_eq e.originator_id a.id) (e.originator_version == a.version + 1) (changed_to a e (fields_then a k e.fields e.timestamp))
     (Err (OriginatorVersion (a.version + 1) e.originator_version)) (Err OriginatorId) b (λ h. cc) (λ h. cc) is)
 
-pended-keeps : (a : Aggregate) (e : DomainEvent) (o : Result Aggregate ApplyFault) (b : Aggregate) → ((x : Aggregate) → o ≡ Ok x → Keeps a e x) → with_pending e o ≡ Ok b
+pub pended-keeps : (a : Aggregate) (e : DomainEvent) (o : Result Aggregate ApplyFault) (b : Aggregate) → ((x : Aggregate) → o ≡ Ok x → Keeps a e x) → with_pending e o ≡ Ok b
     → (b.class ≡ a.class) × (b.version ≡ e.originator_version) × (b.pending ≡ a.pending ++ e ∷ [])
 pended-keeps a e (Err fault) b keeps is = absurd (cc is)
 pended-keeps a e (Ok x) b keeps is =
@@ -112,7 +112,7 @@ opened_ready sys name k id fields at (Ok b) checked is are outcome of =
 
 -- the first of some triggers, and the others as a slice names them
 
-none_fired : (sys : System) (k : Class) (c : Command) (at : ℤ) (ts : List Trigger) → all_fired sys k c at ts None ≡ None
+pub none_fired : (sys : System) (k : Class) (c : Command) (at : ℤ) (ts : List Trigger) → all_fired sys k c at ts None ≡ None
 none_fired sys k c at [] = refl
 none_fired sys k c at (t ∷ ts) = refl
 

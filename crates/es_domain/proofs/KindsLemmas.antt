@@ -26,6 +26,7 @@ use Rattle.es_expr.specs.Misfits.{unless, judged, member, member_misfits, some_m
 use Rattle.es_expr.specs.Sound.{Fits, IsCheckedAs}
 use Rattle.es_expr.specs.declared.fault.ExprFault.TheVariants as fault
 use Rattle.es_expr.specs.declared.misfit.Misfit.{Misfit}
+use Rattle.es_expr.proofs.CheckedLemmas.{AreOfKinds, AreAllOfKinds}
 use Rattle.es_domain.specs.Evaluation.{AreChecked, AreAssignable}
 use Rattle.es_domain.proofs.ToldLemmas.{item-cons}
 use Rattle.es_domain.proofs.ValuesLemmas.{kinds-parts, of-kinds-append, one-of-kind}
@@ -211,6 +212,25 @@ member-of wanted env (x ∷ xs) name e (m, ms) at =
           (m.0, ap (item_of wanted) (sym ((bytes_eq-Decides x.0 name).0 is)) ∙ m.1, ap (λ (y : Expr). kind_of y env) (sym same) ∙ m.2)
       | false ↦ λ is. member-of wanted env xs name e ms (sym (item-cons x xs name false is) ∙ at)
     ] refl
+
+-- the same of members that are told by name
+
+more-member : (x : Name × Expr) (xs : List (Name × Expr)) (name : Name) (e : Expr) → IsTrue (comes_first x.0 xs) → IsRising xs → item_of xs name ≡ Some e → item_of (x ∷ xs) name ≡ Some e
+more-member x xs name e first rising at = elim (bytes_eq x.0 name) as (λ b. bytes_eq x.0 name ≡ b → item_of (x ∷ xs) name ≡ Some e) [
+  | true ↦ λ is. absurd (cc (sym (none-first xs x.0 rising first) ∙ ap (item_of xs) ((bytes_eq-Decides x.0 name).0 is) ∙ at))
+  | false ↦ λ is. item-cons x xs name false is ∙ at
+] refl
+
+by-place : (wanted env : Env) (members : List (Name × Expr)) → IsRising members → AreOfKinds wanted env members → EachMember wanted env members
+by-place wanted env [] rising are = tt
+by-place wanted env (x ∷ xs) rising are = (
+  are x.0 x.1 (own-item x xs),
+  by-place wanted env xs rising.1 (λ name e at. are name e (more-member x xs name e rising.0 rising.1 at)),
+)
+
+pub all_named_checked : (wanted env : Env) (members : List (Name × Expr)) (values : Record) → Fits values env → IsRising wanted → IsRising members → AreAllOfKinds wanted env members → AreChecked wanted members values
+all_named_checked wanted env members values fits rw rm are =
+    aligned wanted env members values fits rw rm (by-place wanted env members rm are.kinds) (each-wanted wanted members are.all)
 
 -- some entries of a list are found in it
 abbrev EachIn : Env → Env → Type 0

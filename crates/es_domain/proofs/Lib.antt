@@ -1,6 +1,10 @@
+pub mod AskingLemmas
 pub mod FiringLemmas
 pub mod FoldLemmas
+pub mod GrowthLemmas
 pub mod KindsLemmas
+pub mod OverlayLemmas
 pub mod Projections
+pub mod RunLemmas
 pub mod ToldLemmas
 pub mod ValuesLemmas

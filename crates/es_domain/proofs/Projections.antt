@@ -80,7 +80,7 @@ event-topic name e is =
 -- ---- places in a list
 
 -- an item stands at a place
-abbrev At : {A : Type 0} → List A → ℕ → A → Type 0
+abbrev pub At : {A : Type 0} → List A → ℕ → A → Type 0
 At [] n y = ⊥
 At (x ∷ xs) zero y = x ≡ y
 At (x ∷ xs) (suc n) y = At xs n y
@@ -99,7 +99,7 @@ each-at f m (x ∷ xs) (suc n) y is at =
 each-from : {A : Type 0} (f : ℕ → A → List Misfit) (xs : List A) (n : ℕ) (y : A) → each f 0 xs ≡ [] → At xs n y → f n y ≡ []
 each-from f xs n y is at = let place : 0 + n ≡ n = omega arith in subst (λ (k : ℕ). f k y ≡ []) place (each-at f 0 xs n y is at)
 
-all-at : {A : Type 0} (p : A → Bool) (xs : List A) (n : ℕ) (y : A) → list_all p xs ≡ true → At xs n y → p y ≡ true
+pub all-at : {A : Type 0} (p : A → Bool) (xs : List A) (n : ℕ) (y : A) → list_all p xs ≡ true → At xs n y → p y ≡ true
 all-at p [] n y is at = absurd at
 all-at p (x ∷ xs) zero y is at = ap p (sym at) ∙ (both (p x) (list_all p xs) is).0
 all-at p (x ∷ xs) (suc n) y is at = all-at p xs n y (both (p x) (list_all p xs) is).1 at
@@ -108,7 +108,7 @@ find-cons : {A : Type 0} (p : A → Bool) (x : A) (xs : List A) (b : Bool) → p
 find-cons p x xs true is = rw is refl
 find-cons p x xs false is = rw is refl
 
-find-at : {A : Type 0} (p : A → Bool) (xs : List A) (y : A) → find p xs ≡ Some y → (n : ℕ) × At xs n y × (p y ≡ true)
+pub find-at : {A : Type 0} (p : A → Bool) (xs : List A) (y : A) → find p xs ≡ Some y → (n : ℕ) × At xs n y × (p y ≡ true)
 find-at p [] y is = absurd (cc is)
 find-at {A} p (x ∷ xs) y is = elim (p x) as (λ b. p x ≡ b → (n : ℕ) × At (x ∷ xs) n y × (p y ≡ true)) [
   | true ↦ λ e. let same : x ≡ y = cc (sym (find-cons p x xs true e) ∙ is) in (zero, same, ap p (sym same) ∙ e)
@@ -213,7 +213,7 @@ one_topic sys name c topic k checked is in_it =
 
 -- ---- environments
 
-env-created : (xs : Record) (ks : List (Name × Kind)) (id at : Value) → IsTrue (are_of_kinds xs ks) → fits id uuid ≡ true → fits at moment ≡ true → IsTrue (are_of_kinds (created_env xs id at) (created_env ks uuid moment))
+pub env-created : (xs : Record) (ks : List (Name × Kind)) (id at : Value) → IsTrue (are_of_kinds xs ks) → fits id uuid ≡ true → fits at moment ≡ true → IsTrue (are_of_kinds (created_env xs id at) (created_env ks uuid moment))
 env-created xs ks id at are id_fits at_fits =
     of-kinds-append ((codes "at", at) ∷ prefixed (codes "event.") xs) ((codes "id", id) ∷ []) ((codes "at", moment) ∷ prefixed (codes "event.") ks) ((codes "id", uuid) ∷ [])
     (of-kinds-append ((codes "at", at) ∷ []) (prefixed (codes "event.") xs) ((codes "at", moment) ∷ []) (prefixed (codes "event.") ks)

@@ -52,3 +52,17 @@ pub(crate) fn assign_env(
 {
     es_expr::assign_env(alloc, event.as_slice(), id, at, fields.as_slice(), version)
 }
+
+pub(crate) fn rule_env(
+    alloc: Global,
+    event: &Fields,
+    id: Value,
+    at: Value,
+    leader: Value,
+    position: Value,
+    version: Value,
+) -> Result<Fields, NoMemory>
+    ensures { IfOk result (λ e. e ≡ rule_env event.now id at leader position version) }
+{
+    es_expr::rule_env(alloc, event.as_slice(), id, at, leader, position, version)
+}

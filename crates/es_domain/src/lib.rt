@@ -1,8 +1,7 @@
-//! Aggregates, which their events make, and the decisions of commands.
+//! Aggregates, which their events make, and the decisions of commands and policies.
 //!
 //! The definitions that contracts cite are in `specs/`: the fold of an aggregate's events, what is read
-//! of an aggregate, what a command decides, and what a reader of aggregates has told. What a policy
-//! decides is defined beside it, and no call stands on it yet.
+//! of an aggregate, what a command and a policy decide, and what a reader of aggregates has told.
 #![tactic(auto)]
 
 mod aggregate;
@@ -13,11 +12,12 @@ mod environment;
 mod find;
 mod fold;
 mod policy;
+mod rules;
 mod values;
 
 pub use aggregate::{Aggregate, ApplyFault, TriggerFault};
 pub use command::{Command, Decision};
-pub use decide::decide_command;
+pub use decide::{decide_command, decide_policy};
 pub use find::{Aggregates, FindFault};
 
 #[cfg(test)]

@@ -4,9 +4,9 @@ ghost use Rattle.es_domain.specs.Readings.{IsFound};
 use super::*;
 use es_expr::is_checked;
 use es_model::{
-    App, Assigns, Atom, AtomKind, Boxed, Class, CommandDef, DomainEvents, Duplicate, EventClass,
-    Expr, Faults, Fields, Guard, Kind, Kinds, List, Moment, NoMemory, System, Text, Trigger, Value,
-    are_of_kinds,
+    App, Assigns, Atom, AtomKind, Boxed, Class, CommandDef, DomainEvent, DomainEvents, Duplicate,
+    EventClass, Expr, Faults, Fields, Guard, Kind, Kinds, List, Moment, NoMemory, Otherwise, Rule,
+    System, Text, Trigger, Value, are_of_kinds,
 };
 use std::alloc::Global;
 use std::test::Fail;
@@ -211,6 +211,11 @@ const ID: u128 = 7;
 
 // A reader of no account, or of one with a balance at version 3.
 fn holding(alloc: Global, balance: Option<i64>) -> Result<Held, NoMemory> {
+    holding_under(alloc, bank(alloc)?, balance)
+}
+
+// The same under a system.
+fn holding_under(alloc: Global, system: System, balance: Option<i64>) -> Result<Held, NoMemory> {
     let mut aggregates = List::new(alloc);
     if let Some(balance) = balance {
         let mut fields = Fields::new(alloc);
@@ -228,7 +233,7 @@ fn holding(alloc: Global, balance: Option<i64>) -> Result<Held, NoMemory> {
         })?;
     }
     Ok(Held {
-        system: bank(alloc)?,
+        system,
         aggregates,
         faults: Faults::new(List::new(alloc)),
     })
@@ -271,7 +276,7 @@ fn decided(
 }
 
 // The amount of an event.
-fn amount(alloc: Global, event: &es_model::DomainEvent) -> Result<i64, Fail> {
+fn amount(alloc: Global, event: &DomainEvent) -> Result<i64, Fail> {
     match event.fields.get(&text(alloc, "amount")?) {
         Some(Value::One(Atom::Int(amount))) => Ok(*amount),
         _ => Err("no amount".into()),
@@ -339,6 +344,182 @@ fn opens_an_account(rt: HostRuntime) -> Result<(), Fail> {
             (event.originator_version, event.originator_id),
             (1, Uuid::from_u128(ID))
         );
+    }
+    Ok(())
+}
+
+// A rule on deposits, whose command has this amount and is for the account of the deposit.
+fn rule(
+    alloc: Global,
+    when: Option<Expr>,
+    command: &str,
+    amount: Expr,
+    otherwise: Otherwise,
+) -> Result<Rule, NoMemory> {
+    Ok(Rule {
+        topic: text(alloc, "Account.Deposited")?,
+        leader: None,
+        when,
+        target: Expr::Get(text(alloc, "id")?),
+        command: text(alloc, command)?,
+        args: assign(alloc, "amount", amount)?,
+        otherwise,
+    })
+}
+
+// Whether the deposit and the greatest number make less than 0, which passes a limit.
+fn beyond(alloc: Global) -> Result<Expr, NoMemory> {
+    let sum = Expr::Add(int(alloc, i64::MAX)?, get(alloc, "event.amount")?);
+    Ok(Expr::Lt(Boxed::new(alloc, sum)?, int(alloc, 0)?))
+}
+
+fn app(alloc: Global, name: &str, policies: List<Rule>) -> Result<App, NoMemory> {
+    let mut classes = List::new(alloc);
+    classes.push(text(alloc, "Account")?)?;
+    Ok(App {
+        name: text(alloc, name)?,
+        classes,
+        policies,
+        section_size: None,
+    })
+}
+
+fn pipe(alloc: Global, leader: &str) -> Result<List<Text>, NoMemory> {
+    let mut pipe = List::new(alloc);
+    pipe.push(text(alloc, leader)?)?;
+    pipe.push(text(alloc, "ledger")?)?;
+    Ok(pipe)
+}
+
+// The bank and a shop, and a ledger with some rules that follows both.
+fn followed(alloc: Global, rules: List<Rule>) -> Result<System, NoMemory> {
+    let mut system = bank(alloc)?;
+    system.apps.push(app(alloc, "shop", List::new(alloc))?)?;
+    system.apps.push(app(alloc, "ledger", rules)?)?;
+    system.pipes.push(pipe(alloc, "bank")?)?;
+    system.pipes.push(pipe(alloc, "shop")?)?;
+    Ok(system)
+}
+
+// What the ledger's rules decide on a deposit of 2 in the bank, over a balance of 5.
+fn ruled(alloc: Global, rules: List<Rule>) -> Result<Decision, Fail> {
+    let sys = followed(alloc, rules)?;
+    if !is_checked(alloc, &sys)? {
+        return Err("the system is not checked".into());
+    }
+    let mut fields = Fields::new(alloc);
+    fields.put(text(alloc, "amount")?, Value::One(Atom::Int(2)))?;
+    let event = DomainEvent {
+        originator_id: Uuid::from_u128(ID),
+        originator_version: 8,
+        timestamp: Moment::nearest(7),
+        topic: text(alloc, "Account.Deposited")?,
+        fields,
+    };
+    let Some((_, declared)) = sys.event(event.topic.as_str()) else {
+        return Err("no event".into());
+    };
+    if !are_of_kinds(&event.fields, &declared.fields) {
+        return Err("other fields".into());
+    }
+    let (leader, ledger) = (text(alloc, "bank")?, text(alloc, "ledger")?);
+    if sys.app(leader.as_str()).is_none() || sys.app(ledger.as_str()).is_none() {
+        return Err("no application".into());
+    }
+    let mut reader = holding_under(alloc, sys.copy()?, Some(5))?;
+    let at = Moment::nearest(9);
+    match decide_policy(alloc, &sys, &ledger, &mut reader, &leader, 6, &event, at) {
+        Ok(decision) => Ok(decision),
+        Err(_) => Err("no decision".into()),
+    }
+}
+
+// The first rule deposits 2, the second one never applies, and the third one withdraws all 7.
+fn three_rules(alloc: Global) -> Result<List<Rule>, NoMemory> {
+    let mut rules = List::new(alloc);
+    let amount = Expr::Get(text(alloc, "event.amount")?);
+    rules.push(rule(alloc, None, "Account.Deposit", amount, Otherwise::Refuse)?)?;
+    let never = Expr::Lt(get(alloc, "event.amount")?, int(alloc, 2)?);
+    let withdraw = "Account.Withdraw";
+    rules.push(rule(
+        alloc,
+        Some(never),
+        withdraw,
+        Expr::Int(1),
+        Otherwise::Refuse,
+    )?)?;
+    let all = Expr::Sub(get(alloc, "version")?, int(alloc, 1)?);
+    rules.push(rule(alloc, None, withdraw, all, Otherwise::Refuse)?)?;
+    Ok(rules)
+}
+
+#[test]
+fn a_later_rule_sees_what_the_first_left(rt: HostRuntime) -> Result<(), Fail> {
+    let Decision::Events(events) = ruled(rt.alloc(), three_rules(rt.alloc())?)? else {
+        return Err("refused".into());
+    };
+    let mut wanted = [(4, "Account.Deposited", 2), (5, "Account.Withdrawn", 7)].iter();
+    for event in events.as_slice() {
+        assert_eq!(rt; event.timestamp.micros(), 9);
+        let amount = amount(rt.alloc(), event)?;
+        let given = (event.originator_version, event.topic.as_str(), amount);
+        assert_eq!(rt; wanted.next(), Some(&given));
+    }
+    assert_eq!(rt; wanted.next(), None);
+    Ok(())
+}
+
+// A deposit of 1, and a rule that is refused in one of these ways.
+fn with_refused(alloc: Global, way: &str, otherwise: Otherwise) -> Result<List<Rule>, NoMemory> {
+    let mut rules = List::new(alloc);
+    rules.push(rule(
+        alloc,
+        None,
+        "Account.Deposit",
+        Expr::Int(1),
+        Otherwise::Refuse,
+    )?)?;
+    let mut refused = rule(alloc, None, "Account.Withdraw", Expr::Int(100), otherwise)?;
+    match way {
+        "target" => {
+            let condition = Boxed::new(alloc, beyond(alloc)?)?;
+            refused.target = Expr::If(condition, get(alloc, "id")?, get(alloc, "id")?);
+        }
+        "when" => refused.when = Some(beyond(alloc)?),
+        "arg" => {
+            let sum = Expr::Add(int(alloc, i64::MAX)?, get(alloc, "event.amount")?);
+            refused.args = assign(alloc, "amount", sum)?;
+        }
+        "shop" => refused.leader = Some(text(alloc, "shop")?),
+        "bank" => refused.leader = Some(text(alloc, "bank")?),
+        _ => {}
+    }
+    rules.push(refused)?;
+    Ok(rules)
+}
+
+#[test]
+fn refused_rules(rt: HostRuntime) -> Result<(), Fail> {
+    for (way, otherwise, wanted) in [
+        ("funds", Otherwise::Refuse, Some("funds")),
+        ("funds", Otherwise::Skip, None),
+        ("target", Otherwise::Refuse, Some("overflow")),
+        ("target", Otherwise::Skip, None),
+        ("when", Otherwise::Refuse, Some("overflow")),
+        ("when", Otherwise::Skip, None),
+        ("arg", Otherwise::Refuse, Some("overflow")),
+        ("bank", Otherwise::Refuse, Some("funds")),
+        ("shop", Otherwise::Refuse, None),
+    ] {
+        match ruled(rt.alloc(), with_refused(rt.alloc(), way, otherwise)?)? {
+            Decision::Refused { code, rule } => {
+                assert_eq!(rt; (Some(code.as_str()), rule), (wanted, 2));
+            }
+            Decision::Events(events) => {
+                assert_eq!(rt; wanted, None);
+                assert_eq!(rt; events.len(), 1);
+            }
+        }
     }
     Ok(())
 }

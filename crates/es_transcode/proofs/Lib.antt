@@ -8,5 +8,6 @@ pub mod FaultLemmas
 pub mod MomentLemmas
 pub mod OnlyLemmas
 pub mod RecordLemmas
+pub mod SpelledLemmas
 pub mod TaggedLemmas
 pub mod TextsLemmas

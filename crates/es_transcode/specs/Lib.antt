@@ -4,4 +4,5 @@ pub mod Decoding
 pub mod MomentText
 pub mod Padded
 pub mod RecordText
+pub mod Spelled
 pub mod Texts

@@ -1,0 +1,9 @@
+pub mod AtomLemmas
+pub mod CheckedLemmas
+pub mod ExpressionLemmas
+pub mod KeptLemmas
+pub mod PairLemmas
+pub mod PartLemmas
+pub mod ReadingLemmas
+pub mod SystemLemmas
+pub mod WeightLemmas

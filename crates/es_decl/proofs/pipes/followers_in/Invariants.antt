@@ -1,0 +1,7 @@
+use Rattle.std.proofs.Common.{◌≡◌, drop, map}
+use Rattle.std.specs.Str.{bytes_eq}
+use Rattle.es_decl.specs.Pairs.{gathered, followers_in}
+use Rattle.es_decl.proofs.pipes.followers_in.Given as goal
+
+abbrev pub invariant-loop-pair : goal.invariant-loop-pair
+invariant-loop-pair l = followers_in l.pairs ≡ gathered bytes_eq l.names (map (λ p. p.1) (drop l.pair-index l.pairs))

@@ -1,0 +1,13 @@
+pub mod Atoms
+pub mod Declaration
+pub mod Edits
+pub mod Expressions
+pub mod Kinds
+pub mod Names
+pub mod Objects
+pub mod Pairs
+pub mod Parts
+pub mod Paths
+pub mod Readings
+pub mod Sizes
+pub mod Words

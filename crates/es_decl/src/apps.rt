@@ -1,0 +1,98 @@
+ghost use Rattle.serde_json.specs.View.{view};
+ghost use Rattle.es_decl.specs.Readings.{Reads};
+ghost use Rattle.es_decl.specs.Declaration as spec;
+
+use crate::DeclFault;
+use crate::classes::AssignsOf;
+use crate::expressions::Expression;
+use crate::names::NameForm;
+use crate::objects::{Object, test_shape};
+use crate::parts::{Number, Part, Several, member, optional, or_else};
+use crate::words::{OtherwiseWord, Topic};
+use es_model::{App, Assigns, Expr, List, Otherwise, Rule, Text};
+use serde_json::Value;
+use std::alloc::Global;
+
+// When a rule applies: its topic, its leader, and what has to be true.
+fn condition(alloc: Global, tree: &Value) -> Result<(Text, Option<Text>, Option<Expr>), DeclFault>
+    ensures { Reads (spec.condition (view tree.now)) result }
+{
+    let topic = member(alloc, tree, "on", &Topic)?;
+    let leader = optional(alloc, tree, "leader", &NameForm::Plain)?;
+    let when = optional(alloc, tree, "when", &Expression)?;
+    Ok((topic, leader, when))
+}
+
+// What a rule runs: its target, the command, and the arguments.
+fn call(alloc: Global, tree: &Value) -> Result<(Expr, Text, Assigns), DeclFault>
+    ensures { Reads (spec.call (view tree.now)) result }
+{
+    let target = member(alloc, tree, "target", &Expression)?;
+    let command = member(alloc, tree, "do", &Topic)?;
+    let args = member(alloc, tree, "args", &AssignsOf(NameForm::Plain))?;
+    Ok((target, command, args))
+}
+
+/// A rule of an application.
+#[derive(Drop)]
+pub(crate) struct RuleObject;
+
+impl Part for RuleObject {
+    type Read = Rule;
+
+    ghost meaning = { λ _. spec.rule };
+
+    fn read(&self, alloc: Global, tree: &Value) -> Result<Rule, DeclFault> {
+        test_shape(alloc, Object::Rule, tree)?;
+        let (topic, leader, when) = condition(alloc, tree)?;
+        let (target, command, args) = call(alloc, tree)?;
+        let otherwise = optional(alloc, tree, "otherwise", &OtherwiseWord)?;
+        Ok(Rule {
+            topic,
+            leader,
+            when,
+            target,
+            command,
+            args,
+            otherwise: or_else(Otherwise::Refuse, otherwise),
+        })
+    }
+}
+
+/// An application.
+#[derive(Drop)]
+pub(crate) struct AppObject;
+
+impl Part for AppObject {
+    type Read = App;
+
+    ghost meaning = { λ _. spec.app };
+
+    fn read(&self, alloc: Global, tree: &Value) -> Result<App, DeclFault> {
+        let classes = Several {
+            least: 0,
+            most: Some(64),
+            part: NameForm::Class,
+        };
+        let policy = Several {
+            least: 0,
+            most: Some(64),
+            part: RuleObject,
+        };
+        let section = Number {
+            least: 1,
+            most: 1000,
+        };
+        test_shape(alloc, Object::App, tree)?;
+        let name = member(alloc, tree, "name", &NameForm::Plain)?;
+        let classes = member(alloc, tree, "classes", &classes)?;
+        let policies = optional(alloc, tree, "policy", &policy)?;
+        let section_size = optional(alloc, tree, "section", &section)?;
+        Ok(App {
+            name,
+            classes,
+            policies: or_else(List::new(alloc), policies),
+            section_size,
+        })
+    }
+}

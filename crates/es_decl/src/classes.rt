@@ -1,0 +1,228 @@
+ghost use Rattle.std.specs.Prelude.{◌≡◌, IfOk};
+ghost use Rattle.serde_json.specs.View.{view};
+ghost use Rattle.es_decl.specs.Words.{topic_of};
+ghost use Rattle.es_decl.specs.Declaration as spec;
+
+use crate::DeclFault;
+use crate::edits::EditObject;
+use crate::expressions::Expression;
+use crate::kinds::KindWord;
+use crate::names::NameForm;
+use crate::objects::{Object, test_shape};
+use crate::parts::{NamedParts, Number, Part, Several, member, optional, or_else};
+use es_model::{Class, CommandDef, Duplicate, EventClass, Guard, List, NoMemory, Text, Trigger};
+use serde_json::Value;
+use std::alloc::Global;
+
+/// Kinds of the names of fields or parameters.
+#[derive(Drop)]
+pub(crate) struct KindsOf(pub NameForm);
+
+impl Part for KindsOf {
+    type Read = es_model::Kinds;
+
+    ghost meaning = { λ s. spec.kinds s.0 };
+
+    fn read(&self, alloc: Global, tree: &Value) -> Result<es_model::Kinds, DeclFault> {
+        let parts = NamedParts {
+            form: self.0,
+            most: Some(32),
+            part: KindWord,
+        };
+        parts.read(alloc, tree)
+    }
+}
+
+/// Expressions that are assigned to names.
+#[derive(Drop)]
+pub(crate) struct AssignsOf(pub NameForm);
+
+impl Part for AssignsOf {
+    type Read = es_model::Assigns;
+
+    ghost meaning = { λ s. spec.assigns s.0 };
+
+    fn read(&self, alloc: Global, tree: &Value) -> Result<es_model::Assigns, DeclFault> {
+        let parts = NamedParts {
+            form: self.0,
+            most: None,
+            part: Expression,
+        };
+        parts.read(alloc, tree)
+    }
+}
+
+/// The edits from each class version of an event to the next.
+#[derive(Drop)]
+pub(crate) struct UpcastsArray;
+
+impl Part for UpcastsArray {
+    type Read = es_model::Upcasts;
+
+    ghost meaning = { λ _. spec.upcasts };
+
+    fn read(&self, alloc: Global, tree: &Value) -> Result<es_model::Upcasts, DeclFault> {
+        let edits = Several {
+            least: 0,
+            most: Some(16),
+            part: EditObject,
+        };
+        let upcasts = Several {
+            least: 0,
+            most: Some(100),
+            part: edits,
+        };
+        upcasts.read(alloc, tree)
+    }
+}
+
+fn topic_of(alloc: Global, class: &Text, event: &Text) -> Result<Text, NoMemory>
+    ensures { IfOk result (λ t. t ≡ topic_of class.now event.now) }
+{
+    let mut topic = String::from_str(alloc, class.as_str())?;
+    topic.push_str(".")?;
+    topic.push_str(event.as_str())?;
+    Text::from_str(alloc, topic.as_str())
+}
+
+/// An event of a class.
+#[derive(Drop)]
+pub(crate) struct EventOf {
+    pub class: Text,
+}
+
+impl Part for EventOf {
+    type Read = EventClass;
+
+    ghost meaning = { λ s. spec.event s.class };
+
+    fn read(&self, alloc: Global, tree: &Value) -> Result<EventClass, DeclFault> {
+        test_shape(alloc, Object::Event, tree)?;
+        let name = member(alloc, tree, "name", &NameForm::Class)?;
+        let fields = member(alloc, tree, "fields", &KindsOf(NameForm::Field))?;
+        let upcasts = optional(alloc, tree, "upcasts", &UpcastsArray)?;
+        let assigns = member(alloc, tree, "set", &AssignsOf(NameForm::Field))?;
+        Ok(EventClass {
+            topic: topic_of(alloc, &self.class, &name)?,
+            fields,
+            upcasts: or_else(List::new(alloc), upcasts),
+            assigns,
+        })
+    }
+}
+
+/// A guard of a command.
+#[derive(Drop)]
+pub(crate) struct GuardObject;
+
+impl Part for GuardObject {
+    type Read = Guard;
+
+    ghost meaning = { λ _. spec.guard };
+
+    fn read(&self, alloc: Global, tree: &Value) -> Result<Guard, DeclFault> {
+        test_shape(alloc, Object::Guard, tree)?;
+        let that = member(alloc, tree, "that", &Expression)?;
+        let code = member(alloc, tree, "code", &NameForm::Code)?;
+        Ok(Guard { that, code })
+    }
+}
+
+/// A trigger of a command.
+#[derive(Drop)]
+pub(crate) struct TriggerObject;
+
+impl Part for TriggerObject {
+    type Read = Trigger;
+
+    ghost meaning = { λ _. spec.trigger };
+
+    fn read(&self, alloc: Global, tree: &Value) -> Result<Trigger, DeclFault> {
+        test_shape(alloc, Object::Trigger, tree)?;
+        let event = member(alloc, tree, "event", &NameForm::Class)?;
+        let fields = member(alloc, tree, "fields", &AssignsOf(NameForm::Field))?;
+        Ok(Trigger { event, fields })
+    }
+}
+
+/// A command of a class.
+#[derive(Drop)]
+pub(crate) struct CommandObject;
+
+impl Part for CommandObject {
+    type Read = CommandDef;
+
+    ghost meaning = { λ _. spec.command };
+
+    fn read(&self, alloc: Global, tree: &Value) -> Result<CommandDef, DeclFault> {
+        let require = Several {
+            least: 0,
+            most: Some(16),
+            part: GuardObject,
+        };
+        let trigger = Several {
+            least: 1,
+            most: Some(8),
+            part: TriggerObject,
+        };
+        test_shape(alloc, Object::Command, tree)?;
+        let name = member(alloc, tree, "name", &NameForm::Class)?;
+        let params = member(alloc, tree, "params", &KindsOf(NameForm::Plain))?;
+        let guards = optional(alloc, tree, "require", &require)?;
+        let triggers = member(alloc, tree, "trigger", &trigger)?;
+        Ok(CommandDef {
+            name,
+            params,
+            guards: or_else(List::new(alloc), guards),
+            triggers,
+        })
+    }
+}
+
+/// A class version, or an interval of snapshots.
+const VERSION: Number = Number {
+    least: 1,
+    most: 1_000_000,
+};
+
+/// A class.
+#[derive(Drop)]
+pub(crate) struct ClassObject;
+
+impl Part for ClassObject {
+    type Read = Class;
+
+    ghost meaning = { λ _. spec.class };
+
+    fn read(&self, alloc: Global, tree: &Value) -> Result<Class, DeclFault> {
+        let commands = Several {
+            least: 0,
+            most: Some(32),
+            part: CommandObject,
+        };
+        test_shape(alloc, Object::Class, tree)?;
+        let name = member(alloc, tree, "name", &NameForm::Class)?;
+        let version = optional(alloc, tree, "version", &VERSION)?;
+        let interval = optional(alloc, tree, "interval", &VERSION)?;
+        let fields = member(alloc, tree, "fields", &KindsOf(NameForm::Field))?;
+        let events = Several {
+            least: 0,
+            most: Some(32),
+            part: EventOf {
+                class: name.copy()?,
+            },
+        };
+        let created = member(alloc, tree, "created", &events.part)?;
+        let events = optional(alloc, tree, "events", &events)?;
+        let commands = optional(alloc, tree, "commands", &commands)?;
+        Ok(Class {
+            name,
+            version: or_else(1, version),
+            interval,
+            fields,
+            created,
+            events: or_else(List::new(alloc), events),
+            commands: or_else(List::new(alloc), commands),
+        })
+    }
+}
