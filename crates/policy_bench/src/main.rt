@@ -1,0 +1,140 @@
+//! Measures the decisions of a policy with three rules on a deposit: the first one deposits it, the
+//! second one doesn't apply, and the third one withdraws the deposit again. The words are numbers of
+//! decisions. The times are written to the standard error, and how many events were decided to the
+//! standard output.
+#![tactic(auto)]
+
+mod declared;
+mod held;
+
+ghost use Rattle.std.specs.Prelude.{◌≡◌, true, IsTrue, is_some};
+ghost use Rattle.es_model.specs.Declaration.{app_named};
+ghost use Rattle.es_expr.specs.Checked.{IsCheckedSystem};
+ghost use Rattle.es_domain.specs.Decision.{IsNotice, notice};
+
+use declared::{account, deposit, system, text};
+use es_domain::{Aggregate, Decision, FindFault, decide_policy};
+use es_expr::is_checked;
+use es_model::{DomainEvent, Moment, System, Text, are_of_kinds};
+use held::Held;
+use std::alloc::Global;
+use std::env;
+use std::rt::Clock;
+use std::time::{Duration, Instant};
+
+// Whether an application is declared.
+fn is_app(sys: &System, name: &Text) -> bool
+    ensures { result ≡ true → IsTrue (is_some (app_named sys.now.apps name.now)) }
+{
+    sys.app(name.as_str()).is_some()
+}
+
+// Whether an event is a notification that a policy may be given.
+fn is_notice(sys: &System, leader: &Text, id: u64, event: &DomainEvent) -> bool
+    ensures { result ≡ true → IsNotice sys.now (notice leader.now id event.now) }
+{
+    match sys.event(event.topic.as_str()) {
+        Some((_, class)) => {
+            are_of_kinds(&event.fields, &class.fields)
+                && is_app(sys, leader)
+                && id < 1 << 62
+                && event.originator_version < 1 << 62
+        }
+        None => false,
+    }
+}
+
+// How many events a policy decides.
+fn decided(
+    alloc: Global,
+    sys: &System,
+    account: &Aggregate,
+    ledger: &Text,
+    leader: &Text,
+    event: &DomainEvent,
+) -> Result<usize, FindFault>
+    requires checked { IsCheckedSystem sys.now }
+    requires app { IsTrue (is_some (app_named sys.now.apps ledger.now)) }
+    requires notice { IsNotice sys.now (notice leader.now 1 event.now) }
+{
+    let mut reader = Held {
+        system: sys,
+        account,
+    };
+    let at = Moment::nearest(9);
+    match decide_policy(alloc, sys, ledger, &mut reader, leader, 1, event, at) {
+        Ok(Decision::Events(events)) => Ok(events.len()),
+        Ok(Decision::Refused { code: _, rule: _ }) => Ok(0),
+        Err(fault) => Err(fault),
+    }
+}
+
+// How many events so many decisions have together.
+fn decide_all(
+    alloc: Global,
+    sys: &System,
+    account: &Aggregate,
+    ledger: &Text,
+    leader: &Text,
+    event: &DomainEvent,
+    count: u64,
+) -> Result<usize, FindFault>
+    requires checked { IsCheckedSystem sys.now }
+    requires app { IsTrue (is_some (app_named sys.now.apps ledger.now)) }
+    requires notice { IsNotice sys.now (notice leader.now 1 event.now) }
+{
+    let mut events = 0usize;
+    for _ in 0..count {
+        let more = decided(alloc, sys, account, ledger, leader, event)?;
+        events = events.saturating_add(more);
+    }
+    Ok(events)
+}
+
+// The same, where they may be decided.
+fn measure(alloc: Global, sys: &System, count: u64) -> anyhow::Result<usize> {
+    let account = account(alloc)?;
+    let event = deposit(alloc)?;
+    let leader = text(alloc, "bank")?;
+    let ledger = text(alloc, "ledger")?;
+    if !is_checked(alloc, sys)? || !is_app(sys, &ledger) {
+        return Err(anyhow::anyhow!("no system"));
+    }
+    if !is_notice(sys, &leader, 1, &event) {
+        return Err(anyhow::anyhow!("no notification"));
+    }
+    Ok(decide_all(alloc, sys, &account, &ledger, &leader, &event, count)?)
+}
+
+// So many in this time, for a second.
+fn rate(count: u64, time: Duration) -> u128 {
+    u128::from(count) * 1_000_000 / time.as_micros().max(1)
+}
+
+// Times so many decisions.
+fn report(
+    rt: &(impl Clock + Eprint + Print),
+    alloc: Global,
+    sys: &System,
+    count: u64,
+) -> anyhow::Result<()> {
+    let before = Instant::now(rt)?;
+    let events = measure(alloc, sys, count)?;
+    let decisions = rate(count, before.elapsed(rt)?);
+    println!(rt; "{count} decisions: {events} events")?;
+    eprintln!(rt; "{decisions}")?;
+    Ok(())
+}
+
+fn run(rt: &(impl Clock + Eprint + Print), alloc: Global, count: u64) -> anyhow::Result<()> {
+    let sys = system(alloc)?;
+    report(rt, alloc, &sys, count)
+}
+
+fn main(rt: HostRuntime) -> anyhow::Result<()> {
+    let alloc = rt.alloc();
+    for word in env::args(&rt)?.skip(1) {
+        run(&rt, alloc, word.as_str().parse::<u64>()?)?;
+    }
+    Ok(())
+}
