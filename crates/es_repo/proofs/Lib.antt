@@ -1,0 +1,6 @@
+pub mod FoldingLemmas
+pub mod FollowsLemmas
+pub mod LogLemmas
+pub mod ReadingLemmas
+pub mod StandingLemmas
+pub mod ToldLemmas
