@@ -83,7 +83,7 @@ module _ (sys : System) where
           record {
             events = folds.events ++ e ∷ [];
             are = are-push ns folds.events n e folds.are event;
-            folds = fold-then None folds.events found e folds.folds ∙ ap (λ r. and_then r (λ (x : Aggregate). Ok {A = Option Aggregate} {B = ApplyFault} (Some x))) (steps ∙ ap Ok same);
+            folds = fold-then None folds.events found e folds.folds ∙ ap (λ (r : Result Aggregate ApplyFault). and_then r (λ (x : Aggregate). Ok (Some x))) (steps ∙ ap Ok same);
           }
       by-step e event (Err f) steps h = absurd (cc h)
 

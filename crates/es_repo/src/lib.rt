@@ -12,3 +12,6 @@ mod verdict;
 
 pub use judge::{judge_command, judge_policy};
 pub use verdict::Verdict;
+
+#[cfg(test)]
+mod tests;

@@ -7,7 +7,7 @@ ghost use Rattle.es_domain.specs.Readings.{unreadable, IsFound, FindHasCause};
 ghost use Rattle.es_domain.specs.declared.find.FindFault.TheVariants as find_faults;
 ghost use Rattle.es_recorder.specs.Selections.{notification_of};
 ghost use Rattle.es_repo.specs.Readings.{readings_of};
-ghost use Rattle.es_repo.specs.Reader.{folded_from, IsWhole, noted, Notes, Reads};
+ghost use Rattle.es_repo.specs.Reader.{folded_from, is_among, IsWhole, noted, Notes, Reads};
 
 use crate::folding::{Folded, fold_events};
 use es_domain::{Aggregate, Aggregates, FindFault};
@@ -109,12 +109,18 @@ fn read<R: ApplicationRecorder>(
     }
 }
 
+fn is_among(asked: &[Uuid], id: Uuid) -> bool
+    ensures { result ≡ is_among asked.now id }
+{
+    asked.iter().any(|known| *known == id)
+}
+
 // Notes that an id was asked for.
 fn note(asked: &mut List<Uuid>, id: Uuid) -> Result<(), NoMemory>
     ensures ok { OnOk result (asked.new ≡ noted asked.old id) }
     ensures err { OnErr result (asked.new ≡ asked.old) }
 {
-    if asked.as_slice().iter().any(|known| *known == id) {
+    if is_among(asked.as_slice(), id) {
         return Ok(());
     }
     asked.push(id)
