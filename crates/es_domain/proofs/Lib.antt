@@ -3,6 +3,7 @@ pub mod FiringLemmas
 pub mod FoldLemmas
 pub mod GrowthLemmas
 pub mod KindsLemmas
+pub mod NextLemmas
 pub mod OverlayLemmas
 pub mod Projections
 pub mod RunLemmas

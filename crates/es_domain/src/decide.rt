@@ -36,6 +36,7 @@ pub fn decide_command<A: Aggregates>(
     ensures events { IfOk result (AreNewEvents sys.now) }
     ensures tells { TellsOnTold (A.told reader.old) (A.told reader.new) }
     ensures same_system { A.system reader.new ≡ A.system reader.old }
+    ensures kept { A.kept reader.new ≡ A.kept reader.old }
     ensures cause { FindHasCause (A.faults reader.old) (A.faults reader.new) result }
 {
     let found = match reader.find(command.id) {
@@ -67,6 +68,7 @@ pub fn decide_policy<A: Aggregates>(
     ensures events { IfOk result (AreNewEvents sys.now) }
     ensures tells { TellsOnTold (A.told reader.old) (A.told reader.new) }
     ensures same_system { A.system reader.new ≡ A.system reader.old }
+    ensures kept { A.kept reader.new ≡ A.kept reader.old }
     ensures cause { FindHasCause (A.faults reader.old) (A.faults reader.new) result }
 {
     let Some(follower) = sys.app(app.as_str()) else {

@@ -39,6 +39,11 @@ pub trait Aggregates {
     /// The notifications of each id that it was asked for, where it tells them.
     ghost told: { Self → Option Told };
 
+    /// What no call changes besides, and its type.
+    ghost Kept: { Type 0 };
+
+    ghost kept: { Self → Kept };
+
     /// How often it has failed.
     ghost faults: { Self → ℕ };
 
@@ -48,5 +53,6 @@ pub trait Aggregates {
         ensures answer { FindsTold (system self.old) (told self.old) id (told self.new) result }
         ensures found { IfOk result (λ found. IfSome found (IsFound (system self.old) id)) }
         ensures same_system { system self.new ≡ system self.old }
+        ensures kept { kept self.new ≡ kept self.old }
         ensures cause { FindHasCause (faults self.old) (faults self.new) result };
 }

@@ -51,6 +51,7 @@ fn find<A: Aggregates>(
     ensures below { (limit : ℕ) → 2 ^ 62 ≤ limit → AreBelow (A.system reader.old) limit changed.now → IfOk result (λ found. IfSome found (IsBelow (A.system reader.old) limit)) }
     ensures tells { TellsOnTold (A.told reader.old) (A.told reader.new) }
     ensures same_system { A.system reader.new ≡ A.system reader.old }
+    ensures kept { A.kept reader.new ≡ A.kept reader.old }
     ensures cause { FindHasCause (A.faults reader.old) (A.faults reader.new) result }
 {
     match latest(changed, id) {
@@ -79,6 +80,7 @@ fn effect_by<A: Aggregates>(
     ensures below { (limit : ℕ) → 2 ^ 62 ≤ limit → AreBelow sys.now limit changed.now → IfOk result (IsEffectBelow sys.now (limit + 8)) }
     ensures tells { TellsOnTold (A.told reader.old) (A.told reader.new) }
     ensures same_system { A.system reader.new ≡ A.system reader.old }
+    ensures kept { A.kept reader.new ≡ A.kept reader.old }
     ensures cause { FindHasCause (A.faults reader.old) (A.faults reader.new) result }
 {
     let found = match find(reader, changed, command.id) {
@@ -108,6 +110,7 @@ fn effect_asked<A: Aggregates>(
     ensures below { (limit : ℕ) → 2 ^ 62 ≤ limit → AreBelow sys.now limit changed.now → IfOk result (IsEffectBelow sys.now (limit + 8)) }
     ensures tells { TellsOnTold (A.told reader.old) (A.told reader.new) }
     ensures same_system { A.system reader.new ≡ A.system reader.old }
+    ensures kept { A.kept reader.new ≡ A.kept reader.old }
     ensures cause { FindHasCause (A.faults reader.old) (A.faults reader.new) result }
 {
     match asked {
@@ -192,6 +195,7 @@ fn run_rule<A: Aggregates>(
     ensures new { IfOk result (IsNewStep sys.now) }
     ensures tells { TellsOnTold (A.told reader.old) (A.told reader.new) }
     ensures same_system { A.system reader.new ≡ A.system reader.old }
+    ensures kept { A.kept reader.new ≡ A.kept reader.old }
     ensures cause { FindHasCause (A.faults reader.old) (A.faults reader.new) result }
 {
     let asked = match ask(alloc, sys, rule, leader, id, event) {
@@ -256,6 +260,7 @@ pub(crate) fn run_rules<A: Aggregates>(
     ensures events { IfOk result (AreNewEvents sys.now) }
     ensures tells { TellsOnTold (A.told reader.old) (A.told reader.new) }
     ensures same_system { A.system reader.new ≡ A.system reader.old }
+    ensures kept { A.kept reader.new ≡ A.kept reader.old }
     ensures cause { FindHasCause (A.faults reader.old) (A.faults reader.new) result }
 {
     let (rule, rest) = match rules {

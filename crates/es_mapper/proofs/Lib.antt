@@ -1,2 +1,3 @@
+pub mod MappedLemmas
 pub mod MappingLemmas
 pub mod UpcastsLemmas

@@ -1,2 +1,3 @@
+pub mod Mapped
 pub mod Mapping
 pub mod Upcasts

@@ -5,6 +5,7 @@ ghost use Rattle.es_model.specs.declared.declaration.Class as class_type;
 ghost use Rattle.es_model.specs.declared.domain_event.DomainEvent as event_type;
 ghost use Rattle.es_transcode.specs.declared.fault.DecodeFault.TheVariants as decode_faults;
 ghost use Rattle.es_mapper.specs.declared.fault.MapFault.TheVariants as faults;
+ghost use Rattle.es_mapper.specs.Mapped.{event_of, Gives};
 ghost use Rattle.es_mapper.specs.Mapping.{version_of, steps_from, upcast_by, without_head, fields_of, IsEvent, IsMapped, IsRead, IsHeaded};
 
 use crate::head::head_of;
@@ -135,6 +136,7 @@ pub fn to_domain(alloc: Global, sys: &System, stored: &StoredEvent) -> Result<Do
     ensures mapped { IsMapped sys.now stored.now result }
     ensures one { IfOk result (λ e. (f : event_type.DomainEvent) → IsEvent sys.now stored.now f → e ≡ f) }
     ensures none { IfErr result (λ f. f ≢ faults.NoMemory → (e : event_type.DomainEvent) → ¬ IsEvent sys.now stored.now e) }
+    ensures event { Gives (event_of sys.now stored.now) result }
 {
     match sys.event(stored.topic.as_str()) {
         Some((class, event)) => with_class(alloc, class, event, stored),

@@ -1,5 +1,6 @@
 pub mod CanonicalText
 pub mod CivilText
+pub mod Decoded
 pub mod Decoding
 pub mod MomentText
 pub mod Padded

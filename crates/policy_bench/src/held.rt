@@ -33,6 +33,10 @@ impl<'a> Aggregates for Held<'a> {
 
     ghost told = { λ _. None };
 
+    ghost Kept = { Unit {0} };
+
+    ghost kept = { λ _. tt };
+
     ghost faults = { λ _. 0 };
 
     fn find(&mut self, id: Uuid) -> Result<Option<Aggregate>, FindFault> {

@@ -42,6 +42,10 @@ impl Aggregates for Held {
 
     ghost told = { λ _. None };
 
+    ghost Kept = { Unit {0} };
+
+    ghost kept = { λ _. tt };
+
     ghost faults = { λ r. r.faults };
 
     fn find(&mut self, id: Uuid) -> Result<Option<Aggregate>, FindFault> {

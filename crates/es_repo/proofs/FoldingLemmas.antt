@@ -1,0 +1,135 @@
+-- What events make, one after the other, is what is read of their notifications.
+use Rattle.std.proofs.Common.{◌≡◌, ◌∙◌, ◌+◌, ◌<◌, ◌-◌, ◌^◌, ◌==◌, ℕ, Bool, true, false, List, [], ◌∷◌, ◌++◌, map, Option, None, Some, Result, Ok, Err, length, take, drop, get_or, drop-cons, add-one, IfSome, IfOk, refl, sym, ap, subst, arith, if◌then◌else◌}
+use Rattle.std.specs.Str.{bytes_eq}
+use Rattle.std.proofs.lemmas.Slice.Eq.{bytes_eq-Decides}
+use Rattle.es_model.specs.History.{log, own, IsFormed}
+use Rattle.es_model.specs.Values.{Name, Id, Record}
+use Rattle.es_model.specs.declared.declaration.Class.{Class}
+use Rattle.es_model.specs.declared.declaration.EventClass.{EventClass}
+use Rattle.es_model.specs.declared.declaration.System.{System}
+use Rattle.es_model.specs.declared.domain_event.DomainEvent.{DomainEvent}
+use Rattle.es_model.specs.declared.event.Notification.{Notification}
+use Rattle.es_model.specs.declared.event.Recording.{Recording}
+use Rattle.es_model.specs.declared.event.StoredEvent.{StoredEvent}
+use Rattle.es_mapper.specs.Mapped.{event_of}
+use Rattle.es_domain.proofs.NextLemmas.{IsMade, new_events}
+use Rattle.es_domain.specs.Overlay.{IsBelow}
+use Rattle.es_domain.specs.Readings.{Reading, folded, unreadable}
+use Rattle.es_domain.specs.Steps.{HasItsFields}
+use Rattle.es_domain.specs.declared.aggregate.Aggregate.{Aggregate}
+use Rattle.es_domain.specs.declared.find.FindFault.{FindFault}
+use Rattle.es_recorder.specs.Selections.{notification_of, select_events}
+use Rattle.es_repo.specs.Reader.{after_event, folded_from, Reads}
+use Rattle.es_repo.specs.Readings.{notifications_of, advanced_by, after_entry, read_from, readings_of}
+use Rattle.es_repo.specs.declared.folding.Folded.{Folded}
+use Rattle.es_repo.specs.declared.folding.Folded.TheVariants.{Whole, Stuck}
+use Rattle.es_repo.proofs.LogLemmas.{all-selected, events-of, place-of}
+use Rattle.es_repo.proofs.StandingLemmas.{advanced-made, standing}
+
+abbrev event : Notification → StoredEvent
+event n = n.event
+
+-- the first entry without a meaning is an entry of this version
+pub record IsStuck (sys : System) (found : Option Aggregate) (ns : List Notification) (version : ℕ) : Type 0 where
+  pub before : List Notification
+  pub entry : Notification
+  pub after : List Notification
+  pub parts : ns ≡ before ++ entry ∷ after
+  pub version_is : entry.event.originator_version ≡ version
+  pub reading : read_from sys found ns ≡ unreadable entry.id
+
+-- what is read of notifications, by what their events make
+abbrev pub IsReadAs : System → Option Aggregate → List Notification → Folded → Type 0
+IsReadAs sys found ns (Whole now) = read_from sys found ns ≡ folded now
+IsReadAs sys found ns (Stuck version) = IsStuck sys found ns version
+
+module _ (sys : System) where
+  -- one entry in front
+  in-front : (found : Option Aggregate) (n : Notification) (ns : List Notification) (a : Aggregate) (f : Folded) → advanced_by sys found (event_of sys n.event) ≡ Some a → IsReadAs sys (Some a) ns f → IsReadAs sys found (n ∷ ns) f
+  in-front found n ns a (Whole now) is rest = ap (λ o. after_entry n.id o (λ b. read_from sys (Some b) ns)) is ∙ rest
+  in-front found n ns a (Stuck version) is rest = record {
+    before = n ∷ rest.before;
+    entry = rest.entry;
+    after = rest.after;
+    parts = ap (λ ms. n ∷ ms) rest.parts;
+    version_is = rest.version_is;
+    reading = ap (λ o. after_entry n.id o (λ b. read_from sys (Some b) ns)) is ∙ rest.reading;
+  }
+
+  read-step : (found : Option Aggregate) (n : Notification) (ns : List Notification) (o : Option Aggregate) → advanced_by sys found (event_of sys n.event) ≡ o → ((a : Aggregate) → IsReadAs sys (Some a) ns (folded_from sys (Some a) (map event ns)))
+      → IsReadAs sys found (n ∷ ns) (after_event n.event.originator_version o (λ a. folded_from sys (Some a) (map event ns)))
+  read-step found n ns None is rest = record {
+    before = [];
+    entry = n;
+    after = ns;
+    parts = refl;
+    version_is = refl;
+    reading = ap (λ o. after_entry n.id o (λ b. read_from sys (Some b) ns)) is;
+  }
+  read-step found n ns (Some a) is rest = in-front found n ns a (folded_from sys (Some a) (map event ns)) is (rest a)
+
+  read-as : (found : Option Aggregate) (ns : List Notification) → IsReadAs sys found ns (folded_from sys found (map event ns))
+  read-as found [] = refl
+  read-as found (n ∷ ns) = read-step found n ns (advanced_by sys found (event_of sys n.event)) refl (λ a. read-as (Some a) ns)
+
+  -- what is read of an originator, by what its events make
+  pub read-of : (h : List Recording) (id : Id) (f : Folded) → f ≡ folded_from sys None (own (log h) id) → IsReadAs sys None (notifications_of (log h) id) f
+  read-of h id f is =
+      subst (IsReadAs sys None (notifications_of (log h) id)) (ap (folded_from sys None) (events-of id (log h)) ∙ sym is) (read-as None (notifications_of (log h) id))
+
+  pub stuck-reads : (h : List Recording) (id : Id) (version : ℕ) (result : Result (Option Aggregate) FindFault) → IsFormed h → Stuck version ≡ folded_from sys None (own (log h) id)
+      → ((n : ℕ) → notification_of (log h) id version ≡ Some n → Reads (unreadable n) result) → Reads (readings_of sys (log h) id) result
+  stuck-reads h id version result formed is answers =
+      let s = read-of h id (Stuck version) is in
+      let place = place-of id h s.before s.entry s.after formed s.parts in
+      subst (λ r. Reads r result) (sym s.reading) (answers s.entry.id (ap (notification_of (log h) id) (sym s.version_is) ∙ place))
+
+-- ---- what is known of an aggregate that is made
+
+made-below : (sys : System) (found : Option Aggregate) (s : StoredEvent) (b : Aggregate) → s.originator_version < 2 ^ 62 → IfSome found (IsBelow sys (2 ^ 62)) → HasItsFields sys b → advanced_by sys found (event_of sys s) ≡ Some b → IsBelow sys (2 ^ 62) b
+made-below sys found s b small below fields is =
+    let m = advanced-made sys found s b is in
+    record {
+      fields = fields;
+      version = subst (λ v. v < 2 ^ 62) (sym (m.3.version_is ∙ m.2)) small;
+      pending = m.3.pending ∙ none found below;
+    }
+  where
+    none : (o : Option Aggregate) → IfSome o (IsBelow sys (2 ^ 62)) → new_events o ≡ []
+    none None h = refl
+    none (Some a) h = h.pending
+
+pub after-below : (sys : System) (found now : Option Aggregate) (e : Option DomainEvent) (s : StoredEvent) → s.originator_version < 2 ^ 62 → IfSome found (IsBelow sys (2 ^ 62)) → IfSome now (HasItsFields sys) → e ≡ event_of sys s → now ≡ advanced_by sys found e
+    → IfSome now (IsBelow sys (2 ^ 62))
+after-below sys found None e s small below fields named is = tt
+after-below sys found (Some b) e s small below fields named is = made-below sys found s b small below fields (ap (advanced_by sys found) (sym named) ∙ sym is)
+
+-- ---- what is answered
+
+whole-of : (sys : System) (h : List Recording) (id : Id) (found : Option Aggregate) → Whole found ≡ folded_from sys None (own (log h) id) → IfSome found (λ a. a.id ≡ id)
+whole-of sys h id None is = tt
+whole-of sys h id (Some a) is = (standing sys (log h) id (Some a) (read-of sys h id (Whole (Some a)) is)).id_is
+
+-- an aggregate of the id is answered
+pub whole-reads : (sys : System) (h : List Recording) (id : Id) (found : Option Aggregate) (result : Result (Option Aggregate) FindFault) → (IfSome found (λ a. a.id ≡ id) → result ≡ Ok found) → Whole found ≡ folded_from sys None (own (log h) id) → Reads (readings_of sys (log h) id) result
+whole-reads sys h id found result answers is =
+    subst (Reads (readings_of sys (log h) id)) (sym (answers (whole-of sys h id found is))) (read-of sys h id (Whole found) is)
+
+-- the same where the history is told
+pub whole-told : (sys : System) (history : Option (List Recording)) (id : Id) (f : Folded) (found : Option Aggregate) (result : Result (Option Aggregate) FindFault) → f ≡ Whole found → (IfSome found (λ a. a.id ≡ id) → result ≡ Ok found)
+    → IfSome history (λ h. f ≡ folded_from sys None (own (log h) id) → Reads (readings_of sys (log h) id) result)
+whole-told sys None id f found result is answers = tt
+whole-told sys (Some h) id f found result is answers = λ folds. whole-reads sys h id found result answers (sym is ∙ folds)
+
+pub stuck-told : (sys : System) (history : Option (List Recording)) (id : Id) (f : Folded) (version : ℕ) (result : Result (Option Aggregate) FindFault) → IfSome history IsFormed → f ≡ Stuck version
+    → IfSome history (λ h. (n : ℕ) → notification_of (log h) id version ≡ Some n → Reads (unreadable n) result) → IfSome history (λ h. f ≡ folded_from sys None (own (log h) id) → Reads (readings_of sys (log h) id) result)
+stuck-told sys None id f version result formed is answers = tt
+stuck-told sys (Some h) id f version result formed is answers = λ folds. stuck-reads sys h id version result formed (sym is ∙ folds) answers
+
+-- what is selected and folded is read
+pub selected-told : (sys : System) (history now : Option (List Recording)) (id : Id) (es : List StoredEvent) (f : Folded) (result : Result (Option Aggregate) FindFault) → now ≡ history → IfSome history (λ h. es ≡ select_events (log h) id None None false None)
+    → f ≡ folded_from sys None es → IfSome now (λ h. f ≡ folded_from sys None (own (log h) id) → Reads (readings_of sys (log h) id) result) → IfSome history (λ h. Reads (readings_of sys (log h) id) result)
+selected-told sys None now id es f result same are folds reads = tt
+selected-told sys (Some h) now id es f result same are folds reads =
+    let all : es ≡ own (log h) id = are ∙ all-selected (log h) id in
+    subst (λ o. IfSome o (λ g. f ≡ folded_from sys None (own (log g) id) → Reads (readings_of sys (log g) id) result)) same reads (folds ∙ ap (folded_from sys None) all)

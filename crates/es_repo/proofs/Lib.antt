@@ -1,0 +1,7 @@
+pub mod FoldingLemmas
+pub mod FollowsLemmas
+pub mod JudgeLemmas
+pub mod LogLemmas
+pub mod ReadingLemmas
+pub mod StandingLemmas
+pub mod ToldLemmas

@@ -1,0 +1,3 @@
+pub mod Reader
+pub mod Readings
+pub mod Verdicts

@@ -1,0 +1,334 @@
+ghost use Rattle.std.specs.Prelude.{IsTrue};
+ghost use Rattle.es_recorder.specs.Insert.{IsInsertable};
+
+use super::*;
+use es_domain::Command;
+use es_expr::is_checked;
+use es_memory::MemoryRecorder;
+use es_model::{
+    App, Assigns, Atom, AtomKind, Boxed, Bytes, Cause, Class, CommandDef, DomainEvent, EventClass,
+    Expr, Fields, Kind, Kinds, List, Moment, NoMemory, Otherwise, Recording, Rule, StoredEvent,
+    StoredEvents, System, Text, Trigger, Value, are_of_kinds,
+};
+use es_recorder::ProcessRecorder;
+use std::alloc::Global;
+use std::test::Fail;
+use uuid::Uuid;
+
+const ID: u128 = 7;
+
+fn text(alloc: Global, text: &str) -> Result<Text, NoMemory> {
+    Text::from_str(alloc, text)
+}
+
+fn get(alloc: Global, name: &str) -> Result<Expr, NoMemory> {
+    Ok(Expr::Get(text(alloc, name)?))
+}
+
+fn assign(alloc: Global, name: &str, expr: Expr) -> Result<Assigns, NoMemory> {
+    let mut assigns = Assigns::new(alloc);
+    assigns.put(text(alloc, name)?, expr)?;
+    Ok(assigns)
+}
+
+// A number of this name.
+fn number(alloc: Global, name: &str) -> Result<Kinds, NoMemory> {
+    let mut kinds = Kinds::new(alloc);
+    kinds.put(text(alloc, name)?, Kind::One(AtomKind::Int))?;
+    Ok(kinds)
+}
+
+fn event_class(
+    alloc: Global,
+    topic: &str,
+    fields: Kinds,
+    balance: Expr,
+) -> Result<EventClass, NoMemory> {
+    Ok(EventClass {
+        topic: text(alloc, topic)?,
+        fields,
+        upcasts: List::new(alloc),
+        assigns: assign(alloc, "balance", balance)?,
+    })
+}
+
+fn command_def(
+    alloc: Global,
+    name: &str,
+    params: Kinds,
+    event: &str,
+    fields: Assigns,
+) -> Result<CommandDef, NoMemory> {
+    let mut triggers = List::new(alloc);
+    triggers.push(Trigger {
+        event: text(alloc, event)?,
+        fields,
+    })?;
+    Ok(CommandDef {
+        name: text(alloc, name)?,
+        params,
+        guards: List::new(alloc),
+        triggers,
+    })
+}
+
+// An account is opened empty, and takes deposits.
+fn account(alloc: Global) -> Result<Class, NoMemory> {
+    let balance = Boxed::new(alloc, get(alloc, "self.balance")?)?;
+    let more = Expr::Add(balance, Boxed::new(alloc, get(alloc, "event.amount")?)?);
+    let mut events = List::new(alloc);
+    events.push(event_class(
+        alloc,
+        "Account.Deposited",
+        number(alloc, "amount")?,
+        more,
+    )?)?;
+    let amount = assign(alloc, "amount", get(alloc, "arg.amount")?)?;
+    let mut commands = List::new(alloc);
+    let none = Kinds::new(alloc);
+    commands.push(command_def(
+        alloc,
+        "Open",
+        none,
+        "Opened",
+        Assigns::new(alloc),
+    )?)?;
+    commands.push(command_def(
+        alloc,
+        "Deposit",
+        number(alloc, "amount")?,
+        "Deposited",
+        amount,
+    )?)?;
+    Ok(Class {
+        name: text(alloc, "Account")?,
+        version: 1,
+        interval: None,
+        fields: number(alloc, "balance")?,
+        created: event_class(alloc, "Account.Opened", Kinds::new(alloc), Expr::Int(0))?,
+        events,
+        commands,
+    })
+}
+
+fn app(alloc: Global, name: &str, policies: List<Rule>) -> Result<App, NoMemory> {
+    let mut classes = List::new(alloc);
+    classes.push(text(alloc, "Account")?)?;
+    Ok(App {
+        name: text(alloc, name)?,
+        classes,
+        policies,
+        section_size: None,
+    })
+}
+
+// The ledger deposits twice what was deposited in the bank.
+fn rules(alloc: Global) -> Result<List<Rule>, NoMemory> {
+    let mut rules = List::new(alloc);
+    for _ in 0..2 {
+        rules.push(Rule {
+            topic: text(alloc, "Account.Deposited")?,
+            leader: None,
+            when: None,
+            target: get(alloc, "id")?,
+            command: text(alloc, "Account.Deposit")?,
+            args: assign(alloc, "amount", get(alloc, "event.amount")?)?,
+            otherwise: Otherwise::Refuse,
+        })?;
+    }
+    Ok(rules)
+}
+
+fn system(alloc: Global) -> Result<System, NoMemory> {
+    let mut classes = List::new(alloc);
+    classes.push(account(alloc)?)?;
+    let mut apps = List::new(alloc);
+    apps.push(app(alloc, "bank", List::new(alloc))?)?;
+    apps.push(app(alloc, "ledger", rules(alloc)?)?)?;
+    let mut pipe = List::new(alloc);
+    pipe.push(text(alloc, "bank")?)?;
+    pipe.push(text(alloc, "ledger")?)?;
+    let mut pipes = List::new(alloc);
+    pipes.push(pipe)?;
+    Ok(System {
+        apps,
+        classes,
+        pipes,
+    })
+}
+
+fn with_amount(alloc: Global, amount: Option<i64>) -> Result<Fields, NoMemory> {
+    let mut fields = Fields::new(alloc);
+    if let Some(amount) = amount {
+        fields.put(text(alloc, "amount")?, Value::One(Atom::Int(amount)))?;
+    }
+    Ok(fields)
+}
+
+// The verdict on a command of an account.
+fn judged(
+    alloc: Global,
+    recorder: &mut MemoryRecorder,
+    name: &str,
+    amount: Option<i64>,
+) -> Result<Verdict, Fail> {
+    let sys = system(alloc)?;
+    if !is_checked(alloc, &sys)? {
+        return Err("the system is not checked".into());
+    }
+    let command = Command {
+        class: text(alloc, "Account")?,
+        name: text(alloc, name)?,
+        id: Uuid::from_u128(ID),
+        args: with_amount(alloc, amount)?,
+        expect: None,
+    };
+    let Some(class) = sys.class(command.class.as_str()) else {
+        return Err("no class".into());
+    };
+    let Some(definition) = class.command(command.name.as_str()) else {
+        return Err("no command".into());
+    };
+    if !are_of_kinds(&command.args, &definition.params) {
+        return Err("other arguments".into());
+    }
+    match judge_command(alloc, &sys, recorder, &command, Moment::nearest(9)) {
+        Ok(verdict) => Ok(verdict),
+        Err(_) => Err("no verdict".into()),
+    }
+}
+
+// The verdict of the ledger on a deposit of 2 in the bank.
+fn ruled(alloc: Global, recorder: &mut MemoryRecorder) -> Result<Verdict, Fail> {
+    let sys = system(alloc)?;
+    if !is_checked(alloc, &sys)? {
+        return Err("the system is not checked".into());
+    }
+    let event = DomainEvent {
+        originator_id: Uuid::from_u128(ID),
+        originator_version: 8,
+        timestamp: Moment::nearest(7),
+        topic: text(alloc, "Account.Deposited")?,
+        fields: with_amount(alloc, Some(2))?,
+    };
+    let Some((_, declared)) = sys.event(event.topic.as_str()) else {
+        return Err("no event".into());
+    };
+    if !are_of_kinds(&event.fields, &declared.fields) {
+        return Err("other fields".into());
+    }
+    let (leader, ledger) = (text(alloc, "bank")?, text(alloc, "ledger")?);
+    if sys.app(leader.as_str()).is_none() || sys.app(ledger.as_str()).is_none() {
+        return Err("no application".into());
+    }
+    let at = Moment::nearest(9);
+    match judge_policy(alloc, &sys, &ledger, recorder, &leader, 6, &event, at) {
+        Ok(verdict) => Ok(verdict),
+        Err(_) => Err("no verdict".into()),
+    }
+}
+
+fn is_insertable(recording: &Recording) -> bool
+    ensures { IsTrue result → IsInsertable recording.now }
+{
+    let is_small = match &recording.cause {
+        Cause::Command { text: _ } => true,
+        Cause::Notification { leader: _, id } => *id < 1 << 62,
+    };
+    is_small
+        && recording
+            .events
+            .as_slice()
+            .iter()
+            .all(|e| e.originator_version < 1 << 63)
+}
+
+// Records events of a command.
+fn record(
+    alloc: Global,
+    recorder: &mut MemoryRecorder,
+    events: StoredEvents,
+) -> Result<(), Fail> {
+    let recording = Recording {
+        cause: Cause::Command {
+            text: Bytes::new(alloc),
+        },
+        at: Moment::nearest(9),
+        events,
+    };
+    if !is_insertable(&recording) {
+        return Err("not insertable".into());
+    }
+    match recorder.insert(&recording) {
+        Ok(_) => Ok(()),
+        Err(_) => Err("not inserted".into()),
+    }
+}
+
+// Records what was decided, which has to be these versions, topics and states.
+fn record_all(
+    rt: HostRuntime,
+    recorder: &mut MemoryRecorder,
+    verdict: Verdict,
+    wanted: &[(u64, &str, &str)],
+) -> Result<(), Fail> {
+    let Verdict::Events(events) = verdict else {
+        return Err("refused".into());
+    };
+    assert_eq!(rt; events.len(), wanted.len());
+    for (event, (version, topic, state)) in events.as_slice().iter().zip(wanted) {
+        assert_eq!(rt; event.originator_id, Uuid::from_u128(ID));
+        assert_eq!(rt; event.originator_version, *version);
+        assert_eq!(rt; event.topic.as_str(), *topic);
+        assert_eq!(rt; event.state.as_slice(), state.as_bytes());
+    }
+    record(rt.alloc(), recorder, events)
+}
+
+const OPENED: &str = "{\"originator_topic\":\"Account\",\"timestamp\":{\"_data_\":\"1970-01-01T00:00:00.000009+00:00\",\"_type_\":\"datetime_iso\"}}";
+const FIVE: &str = "{\"amount\":5,\"timestamp\":{\"_data_\":\"1970-01-01T00:00:00.000009+00:00\",\"_type_\":\"datetime_iso\"}}";
+const TWO: &str = "{\"amount\":2,\"timestamp\":{\"_data_\":\"1970-01-01T00:00:00.000009+00:00\",\"_type_\":\"datetime_iso\"}}";
+
+#[test]
+fn commands(rt: HostRuntime) -> Result<(), Fail> {
+    let mut recorder = MemoryRecorder::new(rt.alloc(), 9);
+    match judged(rt.alloc(), &mut recorder, "Deposit", Some(5))? {
+        Verdict::Refused { code, rule } => {
+            assert_eq!(rt; (code.as_str(), rule), ("missing", 0));
+        }
+        _ => return Err("not refused".into()),
+    }
+    let verdict = judged(rt.alloc(), &mut recorder, "Open", None)?;
+    record_all(rt, &mut recorder, verdict, &[(1, "Account.Opened", OPENED)])?;
+    let verdict = judged(rt.alloc(), &mut recorder, "Deposit", Some(5))?;
+    record_all(rt, &mut recorder, verdict, &[(2, "Account.Deposited", FIVE)])?;
+    let mut events = StoredEvents::new(rt.alloc());
+    events.push(StoredEvent {
+        originator_id: Uuid::from_u128(ID),
+        originator_version: 3,
+        topic: text(rt.alloc(), "Account.Closed")?,
+        state: Bytes::new(rt.alloc()),
+    })?;
+    record(rt.alloc(), &mut recorder, events)?;
+    match judged(rt.alloc(), &mut recorder, "Deposit", Some(5))? {
+        Verdict::Unreadable { id } => assert_eq!(rt; id, 3),
+        _ => return Err("read".into()),
+    }
+    Ok(())
+}
+
+#[test]
+fn policies(rt: HostRuntime) -> Result<(), Fail> {
+    let mut recorder = MemoryRecorder::new(rt.alloc(), 9);
+    match ruled(rt.alloc(), &mut recorder)? {
+        Verdict::Refused { code, rule } => {
+            assert_eq!(rt; (code.as_str(), rule), ("missing", 1));
+        }
+        _ => return Err("not refused".into()),
+    }
+    let verdict = judged(rt.alloc(), &mut recorder, "Open", None)?;
+    record_all(rt, &mut recorder, verdict, &[(1, "Account.Opened", OPENED)])?;
+    let verdict = ruled(rt.alloc(), &mut recorder)?;
+    let twice = [(2, "Account.Deposited", TWO), (3, "Account.Deposited", TWO)];
+    record_all(rt, &mut recorder, verdict, &twice)
+}

@@ -1,0 +1,69 @@
+ghost use Rattle.std.specs.Prelude.{◌≡◌, IfOk, map, All, Err};
+ghost use Rattle.es_model.specs.declared.memory.CallFault.TheVariants as call_faults;
+ghost use Rattle.es_mapper.specs.Mapping.{stored};
+ghost use Rattle.es_domain.specs.Decision.{Decided, Decides, AreNewEvents, IsNewEvent};
+ghost use Rattle.es_domain.specs.declared.find.FindFault.TheVariants as find_faults;
+ghost use Rattle.es_repo.specs.Verdicts.{verdict_of, IsSmallVerdict};
+
+use es_domain::{Decision, FindFault};
+use es_mapper::to_stored;
+use es_model::{CallFault, DomainEvent, NoMemory, StoredEvents, System, Text};
+use std::alloc::Global;
+
+/// What is decided: new events as they are stored, a refusal by its code and the number of the policy's
+/// rule, counted from 1 and 0 for a command, or the first event that has no meaning, by its
+/// notification id.
+#[derive(Debug, Drop)]
+pub enum Verdict {
+    Events(StoredEvents),
+    Refused { code: Text, rule: u64 },
+    Unreadable { id: u64 },
+}
+
+// Events as they are stored.
+fn all_stored(
+    alloc: Global,
+    sys: &System,
+    events: &[DomainEvent],
+) -> Result<StoredEvents, NoMemory>
+    ensures { IfOk result (λ es. es ≡ map (stored sys.now) events.now) }
+{
+    let mut all = StoredEvents::new(alloc);
+    for event in events {
+        all.push(to_stored(alloc, sys, event)?)?;
+    }
+    Ok(all)
+}
+
+// The verdict of a decision.
+fn verdict_on(alloc: Global, sys: &System, decision: Decision) -> Result<Verdict, CallFault>
+    ensures verdict { IfOk result (λ v. v ≡ verdict_of sys.now (Ok decision)) }
+    ensures small { AreNewEvents sys.now decision → IfOk result IsSmallVerdict }
+    ensures memory { ¬ result ≡ Err call_faults.Failed }
+{
+    match decision {
+        Decision::Events(events) => match all_stored(alloc, sys, events.as_slice()) {
+            Ok(events) => Ok(Verdict::Events(events)),
+            Err(NoMemory) => Err(CallFault::NoMemory),
+        },
+        Decision::Refused { code, rule } => Ok(Verdict::Refused { code, rule }),
+    }
+}
+
+/// The verdict of what a command or a policy was found to decide.
+pub(crate) fn verdict_in(
+    alloc: Global,
+    sys: &System,
+    decided: Result<Decision, FindFault>,
+) -> Result<Verdict, CallFault>
+    ensures verdict { (wanted : Decided) → Decides wanted decided → IfOk result (λ v. v ≡ verdict_of sys.now wanted) }
+    ensures small { IfOk decided (AreNewEvents sys.now) → IfOk result IsSmallVerdict }
+    ensures failed { result ≡ Err call_faults.Failed → decided ≡ Err find_faults.Failed }
+{
+    match decided {
+        Ok(decision) => verdict_on(alloc, sys, decision),
+        Err(FindFault::Unreadable { id }) => Ok(Verdict::Unreadable { id }),
+        Err(FindFault::Failed) => Err(CallFault::Failed),
+        Err(FindFault::NoMemory) => Err(CallFault::NoMemory),
+    }
+}
