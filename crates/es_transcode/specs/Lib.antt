@@ -6,3 +6,4 @@ pub mod Padded
 pub mod RecordText
 pub mod Spelled
 pub mod Texts
+pub mod Decoded
