@@ -48,7 +48,7 @@ fitting-asks sys a app d c is =
     let declared : IsDeclared sys a d = record { listed = listed.0; declared = h.0 } in
     (subst (λ p. IsDeclared sys p.0 p.1) same declared, h.1)
 
-asked-of : (sys : System) (o : Option (Name × Command)) (app : Name) (c : Command) → asked_of sys o ≡ asks app c → IsDeclared sys app c × (o ≡ Some (app, c))
+pub asked-of : (sys : System) (o : Option (Name × Command)) (app : Name) (c : Command) → asked_of sys o ≡ asks app c → IsDeclared sys app c × (o ≡ Some (app, c))
 asked-of sys None app c is = absurd (cc is)
 asked-of sys (Some p) app c is = let h = fitting-asks sys p.0 app p.1 c is in (h.0, λ i. Some (h.1.0 i, h.1.1 i))
 

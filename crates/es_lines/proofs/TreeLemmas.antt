@@ -33,7 +33,7 @@ whole app c n i a v names id args expect = λ j. of_parts app (names j) (id j) (
 expected-is : (n : ℕ) → IsTrue (is_expectable n) → if_expectable (Some n) ≡ Some n
 expected-is n is = rw is refl
 
-abbrev tree_with : Name → Command → Option ℕ → Data
+abbrev pub tree_with : Name → Command → Option ℕ → Data
 tree_with app c v = object
     (member (codes "app") (string app)
     (member (codes "args") (record_tree c.args)

@@ -17,3 +17,6 @@ pub use reading::read_line;
 pub use replies::{Reply, reply_text};
 pub use request::Request;
 pub use writing::command_text;
+
+#[cfg(test)]
+mod tests;

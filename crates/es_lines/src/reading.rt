@@ -220,7 +220,8 @@ fn is_listed(sys: &System, app: &Text, command: &Command) -> bool
 fn definition<'a>(sys: &'a System, command: &Command) -> Option<&'a CommandDef>
     ensures { option_copied result ≡ option_map (λ p. p.1) (command_named sys.now command.now.class command.now.name) }
 {
-    sys.class(command.class.as_str())?.command(command.name.as_str())
+    sys.class(command.class.as_str())?
+        .command(command.name.as_str())
 }
 
 fn test_arguments(sys: &System, command: &Command) -> Result<(), LineFault>

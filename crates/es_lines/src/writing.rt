@@ -35,12 +35,27 @@ fn command_tree(alloc: Global, app: &Text, command: &Command) -> Result<Value, N
     let mut members = Map::new(alloc);
     let app = Value::String(String::from_str(alloc, app.as_str())?);
     put(&mut members, alloc, "app", app)?;
-    put(&mut members, alloc, "args", encode_tree(alloc, &command.args)?)?;
-    put(&mut members, alloc, "do", Value::String(do_text(alloc, command)?))?;
+    put(
+        &mut members,
+        alloc,
+        "args",
+        encode_tree(alloc, &command.args)?,
+    )?;
+    put(
+        &mut members,
+        alloc,
+        "do",
+        Value::String(do_text(alloc, command)?),
+    )?;
     if let Some(version) = command.expect {
         put(&mut members, alloc, "expect", Value::from(version))?;
     }
-    put(&mut members, alloc, "id", Value::String(id_text(alloc, &command.id)?))?;
+    put(
+        &mut members,
+        alloc,
+        "id",
+        Value::String(id_text(alloc, &command.id)?),
+    )?;
     Ok(Value::Object(members))
 }
 

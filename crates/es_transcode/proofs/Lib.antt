@@ -2,6 +2,7 @@ pub mod CanonicalLemmas
 pub mod CivilLemmas
 pub mod DateLemmas
 pub mod DecimalLemmas
+pub mod DecodedLemmas
 pub mod DecodingLemmas
 pub mod DigitsLemmas
 pub mod FaultLemmas

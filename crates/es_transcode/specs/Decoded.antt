@@ -1,9 +1,8 @@
 -- The record of a tree and of a text, as functions.
-use Rattle.std.specs.Prelude.{ℕ, Bool, ◌&&◌, List, [], ◌∷◌, codes, if◌then◌else◌, Option, None, Some}
+use Rattle.std.specs.Prelude.{ℕ, ◌^◌, ℤ, pos, negsuc, nat_lt, Bool, ◌&&◌, List, [], ◌∷◌, codes, if◌then◌else◌, Option, None, Some}
 use Rattle.std.specs.Option.{option_map, option_and_then}
 use Rattle.std.specs.Str.{bytes_eq, is_utf8}
-use Rattle.serde_json.specs.Data.{Data, null, boolean, number, string, array, object, Items, no_items, item, Members, no_members, member}
-use Rattle.serde_json.specs.Find.{as_i64}
+use Rattle.serde_json.specs.Data.{Num, unsigned, negative, float, Data, null, boolean, number, string, array, object, Items, no_items, item, Members, no_members, member}
 use Rattle.serde_json.specs.Read.{read}
 use Rattle.uuid.specs.Text.{simple_text, lower, parsed}
 use Rattle.es_model.specs.Values.{Id, Name, Record}
@@ -12,6 +11,13 @@ use Rattle.es_model.specs.declared.value.Atom.TheVariants as atom
 use Rattle.es_model.specs.declared.value.Value.{Value}
 use Rattle.es_model.specs.declared.value.Value.TheVariants as value
 use Rattle.es_transcode.specs.Spelled.{moment_in, decimal_in}
+
+-- the whole number of 64 bits, with a sign only where it is below 0
+abbrev pub int_in : Num → Option ℤ
+int_in (unsigned n) = if nat_lt n (2 ^ 63) then Some (pos n) else None
+int_in (negative (pos n)) = None
+int_in (negative (negsuc n)) = if nat_lt n (2 ^ 63) then Some (negsuc n) else None
+int_in (float x) = None
 
 -- the id of which these are the lower-case digits
 abbrev pub id_at : Option Id → List ℕ → Option Id
@@ -37,7 +43,7 @@ tagged_in ms = None
 abbrev pub atom_in : Data → Option Atom
 atom_in null = Some atom.Null
 atom_in (boolean truth) = Some (atom.Bool truth)
-atom_in (number n) = option_map atom.Int (as_i64 n)
+atom_in (number n) = option_map atom.Int (int_in n)
 atom_in (string text) = Some (atom.Text text)
 atom_in (array ds) = None
 atom_in (object ms) = tagged_in ms

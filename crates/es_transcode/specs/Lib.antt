@@ -1,9 +1,9 @@
 pub mod CanonicalText
 pub mod CivilText
+pub mod Decoded
 pub mod Decoding
 pub mod MomentText
 pub mod Padded
 pub mod RecordText
 pub mod Spelled
 pub mod Texts
-pub mod Decoded
