@@ -88,9 +88,9 @@ whole-atom atom.Null d is = subst HasWhole (sym is) tt
 whole-atom (atom.Bool truth) d is = subst HasWhole (sym is) tt
 whole-atom (atom.Int z) d is = subst HasWhole (sym is.1) (whole-int z is.0)
 whole-atom (atom.Text text) d is = subst HasWhole (sym is) tt
-whole-atom (atom.Uuid i) d is = subst HasWhole (sym is.2) (tt, tt, tt)
-whole-atom (atom.Moment m) d is = subst HasWhole (sym is.2) (tt, tt, tt)
-whole-atom (atom.Decimal n) d is = subst HasWhole (sym is.2) (tt, tt, tt)
+whole-atom (atom.Uuid i) d is = subst HasWhole (sym is.2) (tt, (tt, tt))
+whole-atom (atom.Moment m) d is = subst HasWhole (sym is.2) (tt, (tt, tt))
+whole-atom (atom.Decimal n) d is = subst HasWhole (sym is.2) (tt, (tt, tt))
 
 whole-atoms : (items : List Atom) (ds : Items) → AreAtomTrees items ds → ItemsHaveWhole ds
 whole-atoms [] no_items so = tt
@@ -178,16 +178,16 @@ ascii = IsUtf8-are_ascii
 
 sound-tree : (app : Name) (c : Command) (v : Option ℕ) → IsUtf8 app → IsSpelled c → IsSound (tree_with app c v)
 sound-tree app c None utf8 s =
-    (ascii (codes "app") refl, refl, utf8, ascii (codes "args") refl, refl, s.args, ascii (codes "do") refl, refl, s.names, ascii (codes "id") refl, tt, utf8-simple c.id, tt)
+    (ascii (codes "app") refl, refl, utf8, (ascii (codes "args") refl, refl, s.args, (ascii (codes "do") refl, refl, s.names, (ascii (codes "id") refl, tt, utf8-simple c.id, tt))))
 sound-tree app c (Some n) utf8 s =
-    (ascii (codes "app") refl, refl, utf8, ascii (codes "args") refl, refl, s.args, ascii (codes "do") refl, refl, s.names, ascii (codes "expect") refl, refl, tt, ascii (codes "id") refl, tt, utf8-simple c.id, tt)
+    (ascii (codes "app") refl, refl, utf8, (ascii (codes "args") refl, refl, s.args, (ascii (codes "do") refl, refl, s.names, (ascii (codes "expect") refl, refl, tt, (ascii (codes "id") refl, tt, utf8-simple c.id, tt)))))
 
 small : (n : ℕ) → IsTrue (is_expectable n) → n < 2 ^ 64
 small n is = let most : n ≤ 1099511627776 = leb-true n 1099511627776 is in omega (arith, most)
 
 whole-tree : (app : Name) (c : Command) (v : Option ℕ) → IsTrue (is_absent_or_expectable v) → IsSpelled c → HasWhole (tree_with app c v)
-whole-tree app c None fits s = (tt, s.whole, tt, tt, tt)
-whole-tree app c (Some n) fits s = (tt, s.whole, tt, small n fits, tt, tt)
+whole-tree app c None fits s = (tt, (s.whole, (tt, (tt, tt))))
+whole-tree app c (Some n) fits s = (tt, (s.whole, (tt, (small n fits, (tt, tt)))))
 
 written : (sys : System) (app : Name) (c : Command) → IsUtf8 app → IsSpelled c → IsDeclared sys app c → request_in sys (command_text app c) ≡ asks app c
 unfolding command_text

@@ -1,11 +1,11 @@
 -- Laws of texts with exactly one point.
 use Rattle.std.proofs.Common.{◌≡◌, ◌∙◌, ℕ, suc, ◌+◌, ◌<◌, ◌==◌, nat_lt, Bool, true, false, not, ◌&&◌, ◌||◌, IsTrue, cond, List, [], ◌∷◌, ◌++◌, length, take, drop, Option, Some, None, if◌then◌else◌, refl, sym, ap, subst, arith}
 use Rattle.std.proofs.Math.Seq.{take-append_seam, drop-append-add}
-use Rattle.std.proofs.lemmas.Bool.{eqb-true, lt-ltb}
+use Rattle.std.proofs.lemmas.Bool.{eqb-true, lt-ltb, ltb-true}
 use Rattle.std.proofs.lemmas.List.{length-append}
 use Rattle.std.specs.List.{list_any, list_all, position_or_len, before_first, after_first}
 use Rattle.es_model.specs.Values.{Name}
-use Rattle.es_expr.specs.Limits.{is_dot, is_in_upper_name, is_upper, has_upper_form, has_name_length, is_upper_name}
+use Rattle.es_expr.specs.Limits.{is_dot, is_digit, is_lower, is_upper, is_in_upper_name, has_upper_form, has_name_length, is_upper_name}
 use Rattle.es_lines.specs.Requests.{halves}
 
 -- ---- a text with one point is what stands around it
@@ -18,7 +18,7 @@ joined-step false x s dot within rest =
     let k : ℕ = position_or_len is_dot s in
     let next : 1 + k ≡ suc k = omega arith in
     let after : 1 + k + 1 ≡ suc (k + 1) = omega arith in
-    let inner : nat_lt k (length s) ≡ true = lt-ltb k (length s) (omega (arith, Rattle.std.proofs.lemmas.Bool.ltb-true (1 + k) (suc (length s)) within)) in
+    let inner : nat_lt k (length s) ≡ true = lt-ltb k (length s) (omega (arith, ltb-true (1 + k) (suc (length s)) within)) in
     ap (λ l. x ∷ l) (rest inner) ∙ (λ i. take (sym next i) (x ∷ s) ++ 46 ∷ drop (sym after i) (x ∷ s))
 
 joined : (s : List ℕ) → nat_lt (position_or_len is_dot s) (length s) ≡ true → s ≡ before_first is_dot s ++ 46 ∷ after_first is_dot s
@@ -58,18 +58,16 @@ all-without (b ∷ bs) all =
     let parts = both-true (is_in_upper_name b) (list_all is_in_upper_name bs) all in
     neither (is_dot b) (list_any is_dot bs) (no-point-byte b parts.0) (all-without bs parts.1)
 
+middle : (a b c : Bool) → b ≡ true → (a || b || c) ≡ true
+middle true b c h = refl
+middle false true c h = refl
+middle false false c h = absurd (cc h)
+
 upper-without : (name : Name) → IsTrue (has_upper_form name) → list_any is_dot name ≡ false
 upper-without [] form = absurd (cc form)
 upper-without (b ∷ bs) form =
     let parts = both-true (is_upper b) (list_all is_in_upper_name bs) form in
-    neither (is_dot b) (list_any is_dot bs) (no-point-byte b (upper b parts.0)) (all-without bs parts.1)
-  where
-    upper : (b : ℕ) → IsTrue (is_upper b) → is_in_upper_name b ≡ true
-    upper b is = rw is (or-true _)
-      where
-        or-true : (c : Bool) → (c || true) ≡ true
-        or-true true = refl
-        or-true false = refl
+    neither (is_dot b) (list_any is_dot bs) (no-point-byte b (middle (is_lower b) (is_upper b) (is_digit b) parts.0)) (all-without bs parts.1)
 
 pub name-without : (name : Name) → IsTrue (is_upper_name name) → list_any is_dot name ≡ false
 name-without name is = upper-without name (both-true (has_name_length name) (has_upper_form name) is).1

@@ -1,8 +1,9 @@
 -- Laws of what is asked: it is declared, and what is declared is asked.
-use Rattle.std.proofs.Common.{◌≡◌, ◌∙◌, ℕ, suc, ◌<◌, nat_le, ◌&&◌, Bool, true, false, IsTrue, cond, List, [], ◌∷◌, ◌++◌, map, length, find, Option, Some, None, if◌then◌else◌, refl, sym, ap, subst, arith}
+use Rattle.std.proofs.Common.{◌≡◌, ◌∙◌, ℕ, suc, ◌<◌, nat_le, ◌&&◌, Bool, true, false, IsTrue, cond, List, [], ◌∷◌, ◌++◌, map, length, find, Option, Some, None, Result, Ok, Err, if◌then◌else◌, refl, sym, ap, subst, arith}
 use Rattle.std.proofs.lemmas.Slice.Eq.{bytes_eq-Decides}
 use Rattle.std.specs.List.{Contains, list_all}
 use Rattle.std.specs.Str.{bytes_eq}
+use Rattle.serde_json.specs.Data.{Data}
 use Rattle.es_model.specs.Declaration.{app_named, class_named, command_in}
 use Rattle.es_model.specs.Values.{Name, Record, are_of_kinds}
 use Rattle.es_model.specs.declared.declaration.App.{App}
@@ -15,7 +16,13 @@ use Rattle.es_expr.proofs.TopicLemmas.{passed, class-within}
 use Rattle.es_domain.specs.Decision.{IsOfCommand}
 use Rattle.es_domain.specs.Effect.{command_named, declared_in, with_def}
 use Rattle.es_domain.specs.declared.command.Command.{Command}
-use Rattle.es_lines.specs.Requests.{Asked, asks, refused, has_class, of_definition, fitting, asked_of, request_in, IsDeclared}
+use Rattle.es_transcode.specs.Decoded.{record_in}
+use Rattle.es_transcode.specs.Decoding.{Decodes, IsRecordFault}
+use Rattle.es_transcode.specs.RecordText.{IsRecordTree}
+use Rattle.es_transcode.specs.declared.fault.DecodeFault.{DecodeFault}
+use Rattle.es_transcode.specs.declared.fault.DecodeFault.TheVariants as decode
+use Rattle.es_transcode.proofs.DecodedLemmas.{no-record}
+use Rattle.es_lines.specs.Requests.{Asked, asks, refused, has_class, of_definition, fitting, asked_of, request_in, fault_of, Reads, Tests, IsDeclared}
 use Rattle.es_lines.specs.declared.fault.LineFault.{LineFault}
 use Rattle.es_lines.specs.declared.fault.LineFault.TheVariants as fault
 
@@ -44,7 +51,7 @@ pub fitting-asks : (sys : System) (a app : Name) (d c : Command) → fitting sys
 fitting-asks sys a app d c is =
     let listed = asked-if (has_class (app_named sys.apps a) d.class) (of_definition (command_named sys d.class d.name) a d) fault.Unknown app c is in
     let h = defined-asks (command_named sys d.class d.name) a app d c listed.1 in
-    let same : (a, d) ≡ (app, c) = λ i. (h.1.0 i, h.1.1 i) in
+    let same : ◌≡◌ {A = Name × Command} (a, d) (app, c) = λ i. (h.1.0 i, h.1.1 i) in
     let declared : IsDeclared sys a d = record { listed = listed.0; declared = h.0 } in
     (subst (λ p. IsDeclared sys p.0 p.1) same declared, h.1)
 
@@ -89,9 +96,13 @@ named sys line app c is = name-of sys.apps app c.class (declared sys line app c 
 
 -- ---- the names of a declared command
 
-and-left : (a b : Bool) → IsTrue (a && b) → IsTrue a
-and-left true b h = refl
-and-left false b h = absurd (cc h)
+first-of-six : (u n k e s c : Bool) → IsTrue (u && n && k && e && s && c) → IsTrue u
+first-of-six true n k e s c h = refl
+first-of-six false n k e s c h = absurd (cc h)
+
+first-of-four : (u k g t : Bool) → IsTrue (u && k && g && t) → IsTrue u
+first-of-four true k g t h = refl
+first-of-four false k g t h = absurd (cc h)
 
 and-right : (a b : Bool) → IsTrue (a && b) → IsTrue b
 and-right true b h = h
@@ -109,7 +120,7 @@ class-name : (sys : System) (name : Name) (k : Class) → IsCheckedSystem sys �
 class-name sys name k checked is =
     let same : k.name ≡ name = (bytes_eq-Decides k.name name).0 (found (λ (d : Class). bytes_eq d.name name) sys.classes k is) in
     let within = class-within sys name k checked is in
-    subst (λ n. IsTrue (is_upper_name n)) same (and-left (is_upper_name k.name) _ within)
+    subst (λ n. IsTrue (is_upper_name n)) same (first-of-six (is_upper_name k.name) (are_numbers_within k) (are_kinds_within is_field_name k.fields) (is_event_within k.name k.created) (are_events_within k.name k.events) (are_commands_within k.commands) within)
 
 command-within : (k : Class) → IsTrue (is_class_within k) → IsTrue (are_commands_within k.commands)
 command-within k within = and-right (is_upper_name k.name && are_numbers_within k && are_kinds_within is_field_name k.fields && is_event_within k.name k.created && are_events_within k.name k.events) (are_commands_within k.commands) within
@@ -119,8 +130,7 @@ command-name k name d within is =
     let same : d.name ≡ name = (bytes_eq-Decides d.name name).0 (found (λ (e : CommandDef). bytes_eq e.name name) k.commands d is) in
     let all = and-right (nat_le (length k.commands) 32) (list_all is_command_within k.commands) (command-within k within) in
     let fits = passed (λ (e : CommandDef). bytes_eq e.name name) is_command_within k.commands d all is in
-    let parts = and-left (is_upper_name d.name && are_kinds_within is_lower_name d.params) (are_guards_within d.guards) (and-left _ (are_triggers_within d.triggers) fits) in
-    subst (λ n. IsTrue (is_upper_name n)) same (and-left (is_upper_name d.name) (are_kinds_within is_lower_name d.params) parts)
+    subst (λ n. IsTrue (is_upper_name n)) same (first-of-four (is_upper_name d.name) (are_kinds_within is_lower_name d.params) (are_guards_within d.guards) (are_triggers_within d.triggers) fits)
 
 with-command : (sys : System) (k : Class) (o : Option CommandDef) (class name : Name) (args : Record) → IsCheckedSystem sys → class_named sys.classes class ≡ Some k → command_in k name ≡ o
     → IsOfCommand (with_def k o) args → IsTrue (is_upper_name class) × IsTrue (is_upper_name name)
@@ -136,3 +146,24 @@ with-class sys (Some k) class name args checked is of = with-command sys k (comm
 -- in a checked system the names of a declared command are upper-case ones
 pub upper-names : (sys : System) (app : Name) (c : Command) → IsCheckedSystem sys → IsDeclared sys app c → IsTrue (is_upper_name c.class) × IsTrue (is_upper_name c.name)
 upper-names sys app c checked declared = with-class sys (class_named sys.classes c.class) c.class c.name c.args checked refl declared.declared
+
+-- ---- what the code answers
+
+-- an application that has the class answers by the command's definition
+pub tests-listed : (sys : System) (app : Name) (c : Command) (r : Result (Unit {0}) LineFault) → has_class (app_named sys.apps app) c.class ≡ true
+    → Tests (of_definition (command_named sys c.class c.name) app c) app c r → Tests (fitting sys app c) app c r
+tests-listed sys app c r listed tests =
+    subst (λ q. Tests q app c r) (ap (λ b. if b then of_definition (command_named sys c.class c.name) app c else refused fault.Unknown) (sym listed)) tests
+
+record-fault : (d : Data) (f : DecodeFault) → Decodes (λ (r : Record). IsRecordTree r d) (IsRecordFault d) (Err f) → Reads (record_in d) (Err (fault_of f))
+record-fault d decode.NotJson faults = no-record d decode.NotJson faults
+record-fault d decode.NotRecord faults = no-record d decode.NotRecord faults
+record-fault d decode.Number faults = no-record d decode.Number faults
+record-fault d decode.Shape faults = no-record d decode.Shape faults
+record-fault d decode.UnknownType faults = no-record d decode.UnknownType faults
+record-fault d decode.BadData faults = no-record d decode.BadData faults
+record-fault d decode.Deep faults = no-record d decode.Deep faults
+record-fault d decode.NoMemory faults = tt
+
+pub record-refused : (d : Data) (r : Result Record DecodeFault) (f : DecodeFault) → Decodes (λ (r : Record). IsRecordTree r d) (IsRecordFault d) r → r ≡ Err f → Reads (record_in d) (Err (fault_of f))
+record-refused d r f decodes is = record-fault d f (subst (Decodes (λ (r : Record). IsRecordTree r d) (IsRecordFault d)) is decodes)

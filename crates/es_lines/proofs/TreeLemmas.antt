@@ -1,10 +1,12 @@
 -- Laws of the tree of a command.
-use Rattle.std.proofs.Common.{◌≡◌, ◌∙◌, ◌≤◌, ℕ, pos, negsuc, Bool, true, false, ◌||◌, IsTrue, List, [], ◌∷◌, codes, Option, Some, None, option_map, IsUtf8, if◌then◌else◌, refl, sym, ap, subst, arith}
+use Rattle.std.proofs.Common.{rules, String, Global, string_bytes, ◌≡◌, ◌∙◌, ◌≤◌, ℕ, pos, negsuc, Bool, true, false, ◌||◌, IsTrue, List, [], ◌∷◌, codes, Option, Some, None, option_map, IsUtf8, if◌then◌else◌, refl, sym, ap, subst, arith}
 use Rattle.std.proofs.lemmas.Str.{is_utf8-from_IsUtf8}
 use Rattle.std.specs.Str.{is_utf8}
 use Rattle.uuid.specs.Text.{simple_text, lower, parsed}
-use Rattle.serde_json.specs.Data.{Data, string, object, Items, no_items, item, Members, no_members, member, depth, items_depth, members_depth}
+use Rattle.serde_json.specs.Data.{Data, string, object, Items, no_items, item, Members, no_members, member, put, depth, items_depth, members_depth}
 use Rattle.serde_json.specs.Read.{read, max_depth}
+use Rattle.serde_json.specs.View.{view}
+use Rattle.serde_json.specs.declared.value.Value.{the_lemmas, String as TextTree}
 use Rattle.serde_json.specs.Written.{has_float, items_have_float, members_have_float}
 use Rattle.es_model.specs.Values.{Name, Id, Record}
 use Rattle.es_model.specs.declared.declaration.System.{System}
@@ -14,17 +16,27 @@ use Rattle.es_model.specs.declared.value.Value.{Value}
 use Rattle.es_model.specs.declared.value.Value.TheVariants as value
 use Rattle.es_transcode.specs.CanonicalText.{atom_tree, item_trees, value_tree, member_trees, record_tree}
 use Rattle.es_transcode.specs.Decoded.{tree_in, record_in}
+use Rattle.es_transcode.specs.RecordText.{IsRecordTree}
+use Rattle.es_transcode.proofs.CanonicalLemmas.{only-record_tree}
+use Rattle.es_transcode.proofs.DecodedLemmas.{record-of-tree}
 use Rattle.es_domain.specs.declared.command.Command.{Command}
-use Rattle.es_lines.specs.CommandText.{do_text, command_tree, with_expected, is_absent_or_expectable}
+use Rattle.es_lines.specs.CommandText.{do_text, command_tree, with_expected, put_expected, is_absent_or_expectable}
 use Rattle.es_lines.specs.Requests.{and_then, halves, expected, if_expectable, is_expectable, spelled, asks, asked_of, request_in, IsDeclared}
 use Rattle.es_lines.proofs.RequestLemmas.{asks-fitting}
 
 -- ---- it is read as the command
 
+abbrev target_of : Option (Name × Name) → Option Id → Option ((Name × Name) × Id)
+target_of n i = and_then n (λ n. and_then i (λ i. Some (n, i)))
+
+abbrev command_of : Option ((Name × Name) × Id) → Option Record → Option (Option ℕ) → Option Command
+command_of t a v = and_then t (λ t. and_then a (λ a. and_then v (λ v. Some (record { class = t.0.0; name = t.0.1; id = t.1; args = a; expect = v }))))
+
+abbrev members_of : Name → Option Command → Option (Name × Command)
+members_of app c = and_then c (λ c. Some (app, c))
+
 abbrev of_parts : Name → Option (Name × Name) → Option Id → Option Record → Option (Option ℕ) → Option (Name × Command)
-of_parts app n i a v =
-    and_then (and_then (and_then n (λ n. and_then i (λ i. Some (n, i)))) (λ t. and_then a (λ a. and_then v (λ v.
-    Some (record { class = t.0.0; name = t.0.1; id = t.1; args = a; expect = v }))))) (λ c. Some (app, c))
+of_parts app n i a v = members_of app (command_of (target_of n i) a v)
 
 whole : (app : Name) (c : Command) (n : Option (Name × Name)) (i : Option Id) (a : Option Record) (v : Option (Option ℕ)) → n ≡ Some (c.class, c.name) → i ≡ Some c.id → a ≡ Some c.args → v ≡ Some c.expect
     → of_parts app n i a v ≡ Some (app, c)
@@ -124,3 +136,26 @@ flat-with app c (Some n) = omega (arith, flat-members c.args)
 
 pub flat-tree : (app : Name) (c : Command) → depth (command_tree app c) ≤ max_depth
 flat-tree app c = flat-with app c c.expect
+
+-- ---- it is what its members make, put in one after another
+
+abbrev built : Data → Data → Data → Option ℕ → Data → Members
+built x a d v i = put (codes "id") i (put_expected v (put (codes "do") d (put (codes "args") a (put (codes "app") x no_members))))
+
+built-with : (app : Name) (c : Command) (v : Option ℕ) → object (built (string app) (record_tree c.args) (string (do_text c)) v (string (simple_text lower c.id))) ≡ tree_with app c v
+built-with app c None = refl
+built-with app c (Some n) = refl
+
+pub built-tree : (app : Name) (c : Command) (m0 m1 m2 m3 m4 m5 : Members) (x a d i : Data) → m0 ≡ no_members → m1 ≡ put (codes "app") x m0 → m2 ≡ put (codes "args") a m1 → m3 ≡ put (codes "do") d m2
+    → m4 ≡ put_expected c.expect m3 → m5 ≡ put (codes "id") i m4 → x ≡ string app → a ≡ record_tree c.args → d ≡ string (do_text c) → i ≡ string (simple_text lower c.id) → object m5 ≡ command_tree app c
+built-tree app c m0 m1 m2 m3 m4 m5 x a d i e0 e1 e2 e3 e4 e5 ex ea ed ei =
+    let all : m5 ≡ built x a d c.expect i =
+    e5 ∙ ap (put (codes "id") i) (e4 ∙ ap (put_expected c.expect) (e3 ∙ ap (put (codes "do") d) (e2 ∙ ap (put (codes "args") a) (e1 ∙ ap (put (codes "app") x) e0)))) in
+    ap object all ∙ (λ j. object (built (ex j) (ea j) (ed j) c.expect (ei j))) ∙ built-with app c c.expect
+
+-- a record that has a tree is read from its tree
+pub record-again : (r : Record) (d : Data) → IsRecordTree r d → record_in (record_tree r) ≡ Some r
+record-again r d is = subst (λ t. record_in t ≡ Some r) (only-record_tree r d is) (record-of-tree d r is)
+
+pub view-text : (s : String Global) → view (TextTree s) ≡ string (string_bytes s)
+view-text s = search (rules, the_lemmas)

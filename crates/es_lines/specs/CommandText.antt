@@ -1,7 +1,7 @@
 -- The canonical text of a command, as a function of it.
 use Rattle.std.specs.Prelude.{ℕ, ◌≡◌, IsTrue, Bool, true, false, not, List, [], ◌∷◌, ◌++◌, codes, Option, None, Some}
 use Rattle.std.specs.List.{list_any}
-use Rattle.serde_json.specs.Data.{Data, unsigned, number, string, object, Members, no_members, member}
+use Rattle.serde_json.specs.Data.{Data, unsigned, number, string, object, Members, no_members, member, put}
 use Rattle.serde_json.specs.Written.{compact_text}
 use Rattle.uuid.specs.Text.{simple_text, lower}
 use Rattle.es_model.specs.Values.{Name}
@@ -19,6 +19,11 @@ do_text c = c.class ++ 46 ∷ c.name
 abbrev pub with_expected : Option ℕ → Members → Members
 with_expected None ms = ms
 with_expected (Some n) ms = member (codes "expect") (number (unsigned n)) ms
+
+-- the same, put at its place
+abbrev pub put_expected : Option ℕ → Members → Members
+put_expected None ms = ms
+put_expected (Some n) ms = put (codes "expect") (number (unsigned n)) ms
 
 -- the members, in byte order
 abbrev pub command_tree : Name → Command → Data

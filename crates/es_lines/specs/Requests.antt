@@ -12,6 +12,8 @@ use Rattle.es_model.specs.declared.declaration.Class.{Class}
 use Rattle.es_model.specs.declared.declaration.CommandDef.{CommandDef}
 use Rattle.es_model.specs.declared.declaration.System.{System}
 use Rattle.es_transcode.specs.Decoded.{tree_in, record_in}
+use Rattle.es_transcode.specs.declared.fault.DecodeFault.{DecodeFault}
+use Rattle.es_transcode.specs.declared.fault.DecodeFault.TheVariants as decode
 use Rattle.es_expr.specs.Limits.{is_dot}
 use Rattle.es_domain.specs.Decision.{IsOfCommand}
 use Rattle.es_domain.specs.Effect.{command_named}
@@ -137,6 +139,11 @@ Reads o (Ok x) = o ≡ Some x
 Reads o (Err Syntax) = o ≡ None
 Reads o (Err NoMemory) = Unit {0}
 Reads o (Err f) = ⊥
+
+-- a fault of a record, as one of its line
+abbrev pub fault_of : DecodeFault → LineFault
+fault_of decode.NoMemory = NoMemory
+fault_of f = Syntax
 
 -- an answer is what a line asks, or want of memory
 abbrev pub Answers : Asked → Result Request LineFault → Type 0

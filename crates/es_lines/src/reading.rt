@@ -1,6 +1,6 @@
 ghost use Rattle.std.specs.Prelude.{◌≡◌, IfOk, option_map, codes};
 ghost use Rattle.std.specs.Option.{option_copied};
-ghost use Rattle.serde_json.specs.Data.{Data};
+ghost use Rattle.uuid.specs.Text.{parsed};
 ghost use Rattle.serde_json.specs.Find.{get};
 ghost use Rattle.serde_json.specs.Read.{read};
 ghost use Rattle.serde_json.specs.View.{view, members_view};
@@ -34,7 +34,12 @@ fn is_member(name: &str) -> bool
 fn are_members(members: &BTreeMap<String, Value>) -> bool
     ensures { result ≡ spec.are_members (members_view members.now.entries) }
 {
-    members.iter().all(|(name, _)| is_member(name.as_str()))
+    for (name, _) in members.iter() {
+        if !is_member(name.as_str()) {
+            return false;
+        }
+    }
+    true
 }
 
 fn has_form(tree: &Value) -> bool
@@ -70,10 +75,19 @@ fn names_in(tree: &Value) -> Option<(&str, &str)>
     halves(text_in(tree, "do")?)
 }
 
+fn id_of(text: &str) -> Option<Uuid>
+    ensures { result ≡ parsed text.now }
+{
+    match Uuid::parse_str(text) {
+        Ok(id) => Some(id),
+        Err(_) => None,
+    }
+}
+
 fn id_in(tree: &Value) -> Option<Uuid>
     ensures { result ≡ spec.id (view tree.now) }
 {
-    Uuid::parse_str(text_in(tree, "id")?).ok()
+    id_of(text_in(tree, "id")?)
 }
 
 fn version_in(tree: &Value) -> Option<u64>
@@ -97,13 +111,21 @@ fn expected(tree: &Value) -> Option<Option<u64>>
     }
 }
 
+fn fault_of(fault: DecodeFault) -> LineFault
+    ensures { result ≡ spec.fault_of fault }
+{
+    match fault {
+        DecodeFault::NoMemory => LineFault::NoMemory,
+        _ => LineFault::Syntax,
+    }
+}
+
 fn record_of(alloc: Global, tree: &Value) -> Result<Fields, LineFault>
     ensures { Reads (record_in (view tree.now)) result }
 {
     match decode_tree(alloc, tree) {
         Ok(fields) => Ok(fields),
-        Err(DecodeFault::NoMemory) => Err(LineFault::NoMemory),
-        Err(_) => Err(LineFault::Syntax),
+        Err(fault) => Err(fault_of(fault)),
     }
 }
 

@@ -1,7 +1,11 @@
-ghost use Rattle.std.specs.Prelude.{◌≡◌, ◌++◌, ◌∷◌, IfOk, string_bytes};
-ghost use Rattle.uuid.specs.Text.{simple_text, lower};
+ghost use Rattle.std.specs.Prelude.{◌≡◌, IfOk, OnOk, Some, string_bytes};
+ghost use Rattle.uuid.specs.Text.{simple_text, lower, parsed};
 ghost use Rattle.serde_json.specs.View.{view, members_view};
 ghost use Rattle.es_model.specs.declared.declaration.System.{System};
+ghost use Rattle.es_model.specs.declared.value.Atom.TheVariants as atoms;
+ghost use Rattle.es_transcode.specs.CanonicalText.{record_tree};
+ghost use Rattle.es_transcode.specs.Decoded.{record_in};
+ghost use Rattle.es_transcode.specs.Texts.{HasText};
 ghost use Rattle.es_lines.specs.CommandText.{do_text, command_tree, CanBeAsked};
 ghost use Rattle.es_lines.specs.CommandText as spec;
 ghost use Rattle.es_lines.specs.Requests.{request_in, asks};
@@ -23,18 +27,34 @@ fn do_text(alloc: Global, command: &Command) -> Result<String, NoMemory>
 }
 
 fn id_text(alloc: Global, id: &Uuid) -> Result<String, NoMemory>
-    ensures { IfOk result (λ s. string_bytes s ≡ simple_text lower id.now) }
+    ensures { IfOk result (λ s. HasText (atoms.Uuid id.now) (string_bytes s)) }
 {
     let mut buffer = Uuid::encode_buffer();
     Ok(String::from_str(alloc, id.simple().encode_lower(&mut buffer))?)
 }
 
+// Adds the version that is expected, if there is one.
+fn put_expected(
+    members: &mut Map<String, Value>,
+    alloc: Global,
+    expect: Option<u64>,
+) -> Result<(), NoMemory>
+    ensures { OnOk result (members_view members.new.entries ≡ spec.put_expected expect (members_view members.old.entries)) }
+{
+    if let Some(version) = expect {
+        put(members, alloc, "expect", Value::from(version))?;
+    }
+    Ok(())
+}
+
 fn command_tree(alloc: Global, app: &Text, command: &Command) -> Result<Value, NoMemory>
-    ensures { IfOk result (λ v. view v ≡ command_tree app.now command.now) }
+    ensures tree { IfOk result (λ v. view v ≡ command_tree app.now command.now) }
+    ensures args { IfOk result (λ _. record_in (record_tree command.now.args) ≡ Some command.now.args) }
+    ensures id { IfOk result (λ _. parsed (simple_text lower command.now.id) ≡ Some command.now.id) }
 {
     let mut members = Map::new(alloc);
-    let app = Value::String(String::from_str(alloc, app.as_str())?);
-    put(&mut members, alloc, "app", app)?;
+    let app = String::from_str(alloc, app.as_str())?;
+    put(&mut members, alloc, "app", Value::String(app))?;
     put(
         &mut members,
         alloc,
@@ -47,9 +67,7 @@ fn command_tree(alloc: Global, app: &Text, command: &Command) -> Result<Value, N
         "do",
         Value::String(do_text(alloc, command)?),
     )?;
-    if let Some(version) = command.expect {
-        put(&mut members, alloc, "expect", Value::from(version))?;
-    }
+    put_expected(&mut members, alloc, command.expect)?;
     put(
         &mut members,
         alloc,
