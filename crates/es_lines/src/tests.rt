@@ -1,7 +1,7 @@
 use crate::{End, LineFault, Reply, Request, command_text, end_text, read_line, reply_text};
 use es_model::{
-    App, AtomKind, Bytes, Class, Code, CommandDef, Counts, EventClass, Kind, Kinds, List, NoMemory,
-    System, Text,
+    App, Assigns, AtomKind, Bytes, Class, Code, CommandDef, Counts, EventClass, Kind, Kinds, List,
+    NoMemory, System, Text,
 };
 use std::alloc::Global;
 use std::test::Fail;
@@ -41,7 +41,7 @@ fn class(alloc: Global, name: &str, topic: &str) -> Result<Class, NoMemory> {
             topic: text(alloc, topic)?,
             fields: Kinds::new(alloc),
             upcasts: List::new(alloc),
-            assigns: List::new(alloc),
+            assigns: Assigns::new(alloc),
         },
         events: List::new(alloc),
         commands,
