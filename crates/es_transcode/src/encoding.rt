@@ -73,6 +73,14 @@ fn member_trees(
     Ok(members)
 }
 
+/// The tree of a record.
+pub fn encode_tree(alloc: Global, fields: &Fields) -> Result<serde_json::Value, NoMemory>
+    ensures { IfOk result (λ v. IsRecordTree fields.now (view v)) }
+{
+    let members = member_trees(alloc, fields.as_slice())?;
+    Ok(serde_json::Value::Object(members))
+}
+
 /// The canonical text of a record.
 pub fn encode_record(alloc: Global, fields: &Fields) -> Result<Bytes, NoMemory>
     ensures record { IfOk result (IsRecordText fields.now) }

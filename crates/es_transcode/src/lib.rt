@@ -16,7 +16,7 @@ mod hex;
 mod transcoding;
 
 pub use decoding::{decode_record, decode_tree};
-pub use encoding::encode_record;
+pub use encoding::{encode_record, encode_tree};
 pub use fault::DecodeFault;
 pub use transcoding::{DatetimeAsIso, DecimalAsStr, Transcoding, UuidAsHex};
 

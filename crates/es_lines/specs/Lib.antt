@@ -1,0 +1,3 @@
+pub mod CommandText
+pub mod Requests
+pub mod Texts
