@@ -91,9 +91,10 @@ member-nil : (s : System) (pipe before rest : List Name) (path : List ℕ) (plac
 member-nil s pipe before rest path place name split at none =
     let declared : List Misfit = unless (is_some (app_named s.apps name)) code.Unknown (item path place) in
     let other : List Misfit = unless (is_other (take place pipe) name) code.Pipe (item path place) in
-    let front : take place pipe ≡ before = ap (take place) split ∙ take_at before rest place (sym at) in
-    (unless-true (is_some (app_named s.apps name)) code.Unknown (item path place) (nil-left declared other none),
-     subst (λ z. IsTrue (is_other z name)) front (unless-true (is_other (take place pipe) name) code.Pipe (item path place) (nil-right declared other none)))
+    let front : take place pipe ≡ before = ap (take place) split ∙ take_at before rest place (sym at) in (
+      unless-true (is_some (app_named s.apps name)) code.Unknown (item path place) (nil-left declared other none),
+      subst (λ z. IsTrue (is_other z name)) front (unless-true (is_other (take place pipe) name) code.Pipe (item path place) (nil-right declared other none)),
+    )
 
 neighbours-fit : (s : System) (pipe before rest : List Name) (path : List ℕ) (place : ℕ) → pipe ≡ before ++ rest → place ≡ length before → each (joined_misfits s pipe path) place rest ≡ []
     → list_all (fits s) (neighbours rest) ≡ true
@@ -135,7 +136,7 @@ pair-fits s p checked there =
     let apps : List Misfit = each (app_misfits s (codes "/apps")) 0 s.apps in
     let pipes : List Misfit = each (pipe_misfits s (codes "/pipes")) 0 s.pipes in
     let all : list_all (fits s) (pairs_of s.pipes) ≡ true =
-        gathered-pass (fits s) is_pair [] (all_neighbours s.pipes) refl (all-neighbours-fit s (codes "/pipes") 0 s.pipes (nil-right (classes ++ apps) pipes checked.fits_together)) in
+    gathered-pass (fits s) is_pair [] (all_neighbours s.pipes) refl (all-neighbours-fit s (codes "/pipes") 0 s.pipes (nil-right (classes ++ apps) pipes checked.fits_together)) in
     All-contains (λ z. fits s z ≡ true) (pairs_of s.pipes) p (AllPass-from_list_all (fits s) (pairs_of s.pipes) all) there
 
 declared-step : (b : Bool) (a : App) (apps : List App) (name : Name) → bytes_eq a.name name ≡ b → (is_some (app_named apps name) ≡ true → Contains (map (λ (c : App). c.name) apps) name)
