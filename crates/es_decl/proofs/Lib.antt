@@ -1,5 +1,6 @@
 pub mod AtomLemmas
 pub mod CheckedLemmas
+pub mod CheckedSystemLemmas
 pub mod ExpressionLemmas
 pub mod KeptLemmas
 pub mod PairLemmas

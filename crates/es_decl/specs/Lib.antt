@@ -1,5 +1,6 @@
 pub mod Atoms
 pub mod Declaration
+pub mod Distinct
 pub mod Edits
 pub mod Expressions
 pub mod Kinds

@@ -2,12 +2,13 @@ use crate::{
     DeclFault, Pairs, followers, followers_of, leaders, leaders_only, pairs, processors,
     read_system, sample,
 };
+use es_expr::is_checked;
 use es_model::{Code, Names, NoMemory, System, Text};
 use std::alloc::Global;
 use std::test::Fail;
 
 // Documents with their first fault. The tests go through them in order.
-const FORMS: [(&str, Code, &str); 49] = [
+const FORMS: [(&str, Code, &str); 50] = [
     ("{\"apps\":", Code::Json, ""),
     ("{\"x\":1e400}", Code::Json, ""),
     ("", Code::Json, ""),
@@ -233,9 +234,14 @@ const FORMS: [(&str, Code, &str); 49] = [
         Code::Form,
         "/zz",
     ),
+    (
+        "{\"apps\":[{\"classes\":[\"A\"],\"name\":\"a\"}],\"classes\":[{\"commands\":[{\"name\":\"C\",\"params\":{},\"trigger\":[{\"event\":\"B\",\"fields\":{}}]}],\"created\":{\"fields\":{},\"name\":\"B\",\"set\":{\"f\":{\"int\":0}}},\"fields\":{\"f\":\"int\"},\"name\":\"A\"},{\"commands\":[{\"name\":\"C\",\"params\":{},\"trigger\":[{\"event\":\"B\",\"fields\":{}}]}],\"created\":{\"fields\":{},\"name\":\"B\",\"set\":{\"f\":{\"int\":0}}},\"fields\":{\"f\":\"int\"},\"name\":\"A\"}],\"pipes\":[[\"a\"]]}",
+        Code::Limit,
+        "/pipes/0",
+    ),
 ];
 
-const MEANINGS: [(&str, Code, &str); 12] = [
+const MEANINGS: [(&str, Code, &str); 15] = [
     (
         "{\"apps\":[{\"classes\":[\"A\"],\"name\":\"a\"}],\"classes\":[{\"commands\":[{\"name\":\"C\",\"params\":{},\"trigger\":[{\"event\":\"B\",\"fields\":{}}]}],\"created\":{\"fields\":{},\"name\":\"B\",\"set\":{\"f\":{\"int\":0}}},\"fields\":{\"f\":\"int\"},\"name\":\"A\"},{\"commands\":[{\"name\":\"C\",\"params\":{},\"trigger\":[{\"event\":\"B\",\"fields\":{}}]}],\"created\":{\"fields\":{},\"name\":\"B\",\"set\":{\"f\":{\"int\":0}}},\"fields\":{\"f\":\"int\"},\"name\":\"A\"}],\"pipes\":[]}",
         Code::Repeat,
@@ -295,6 +301,21 @@ const MEANINGS: [(&str, Code, &str); 12] = [
         "{\"apps\":[{\"classes\":[\"A\"],\"name\":\"a\"},{\"classes\":[],\"name\":\"b\"}],\"classes\":[{\"commands\":[{\"name\":\"C\",\"params\":{},\"trigger\":[{\"event\":\"B\",\"fields\":{}}]}],\"created\":{\"fields\":{},\"name\":\"B\",\"set\":{\"f\":{\"int\":0}}},\"fields\":{\"f\":\"int\"},\"name\":\"A\"}],\"pipes\":[[\"a\",\"b\"],[\"a\",\"b\",\"b\"]]}",
         Code::Pipe,
         "/pipes/1/2",
+    ),
+    (
+        "{\"apps\":[{\"classes\":[],\"name\":\"bank\"}],\"classes\":[],\"pipes\":[[\"bank\",\"bank\"]]}",
+        Code::Pipe,
+        "/pipes/0/1",
+    ),
+    (
+        "{\"apps\":[{\"classes\":[\"A\"],\"name\":\"a\"}],\"classes\":[{\"commands\":[{\"name\":\"C\",\"params\":{},\"trigger\":[{\"event\":\"B\",\"fields\":{}}]},{\"name\":\"C\",\"params\":{},\"trigger\":[{\"event\":\"B\",\"fields\":{}}]}],\"created\":{\"fields\":{},\"name\":\"B\",\"set\":{\"f\":{\"int\":0}}},\"fields\":{\"f\":\"int\"},\"name\":\"A\"}],\"pipes\":[]}",
+        Code::Repeat,
+        "/classes/0/commands/1/name",
+    ),
+    (
+        "{\"apps\":[{\"classes\":[\"A\"],\"name\":\"a\"}],\"classes\":[{\"commands\":[{\"name\":\"C\",\"params\":{},\"trigger\":[{\"event\":\"B\",\"fields\":{}}]}],\"created\":{\"fields\":{},\"name\":\"B\",\"set\":{\"f\":{\"int\":0}}},\"events\":[{\"fields\":{},\"name\":\"B\",\"set\":{}}],\"fields\":{\"f\":\"int\"},\"name\":\"A\"}],\"pipes\":[]}",
+        Code::Repeat,
+        "/classes/0/events/0/name",
     ),
 ];
 
@@ -372,6 +393,11 @@ fn lengths(rt: HostRuntime) -> Result<(), Fail> {
     Ok(())
 }
 
+fn is_sample_checked(alloc: Global) -> Result<bool, NoMemory> {
+    let sys = sample(alloc)?;
+    is_checked(alloc, &sys)
+}
+
 #[test]
 fn systems(rt: HostRuntime) -> Result<(), Fail> {
     for (i, (document, apps, classes, pipes)) in SYSTEMS.iter().enumerate() {
@@ -382,8 +408,7 @@ fn systems(rt: HostRuntime) -> Result<(), Fail> {
         assert_eq!(rt; sys.classes.len(), *classes, "row {i}");
         assert_eq!(rt; sys.pipes.len(), *pipes, "row {i}");
     }
-    let sys = sample(rt.alloc())?;
-    assert_eq!(rt; sys.classes.len(), 2);
+    assert!(rt; is_sample_checked(rt.alloc())?);
     Ok(())
 }
 
@@ -407,6 +432,18 @@ fn system(alloc: Global, document: &str) -> Result<System, Fail> {
         Ok(sys) => Ok(sys),
         Err(_) => Err("a system is refused".into()),
     }
+}
+
+fn has_sample_its_pair(alloc: Global) -> Result<bool, NoMemory> {
+    let sys = sample(alloc)?;
+    let pairs = pairs(alloc, &sys)?;
+    Ok(are_pairs(&pairs, [("bank", "audit")].as_slice()))
+}
+
+#[test]
+fn sample_pairs(rt: HostRuntime) -> Result<(), Fail> {
+    assert!(rt; has_sample_its_pair(rt.alloc())?);
+    Ok(())
 }
 
 #[test]

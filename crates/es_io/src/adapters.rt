@@ -1,12 +1,12 @@
-ghost use Rattle.std.specs.Prelude.{◌≤◌};
+ghost use Rattle.std.specs.Prelude.{◌≡◌, ◌≤◌, length, IfSome};
 ghost use Rattle.es_model.specs.Causes.{Rose};
 
-use crate::{Clock, Sink, Source};
-use es_model::{Failed, Moment};
-use std::io;
+use crate::{Clock, Document, Sink, Source};
+use es_model::{CallFault, Failed, Moment, Text};
 use std::io::{Read, Write};
-use std::rt::Clock as WallClock;
+use std::rt::{Clock as WallClock, Files};
 use std::time::{SystemTime, UNIX_EPOCH};
+use std::{fs, io};
 
 /// Standard input. It tells nothing of what is left.
 #[derive(Drop)]
@@ -84,6 +84,73 @@ impl<R: Print> Sink for StdSink<R> {
             Ok(()) => Ok(()),
             Err(_) => Err(self.fail()),
         }
+    }
+}
+
+/// Documents that are files, each named by its path. It tells nothing of what is in them. Before the
+/// first document, and after one that couldn't be opened, it is at an end.
+#[derive(Drop)]
+pub struct FileDocument<R: Files> {
+    rt: R,
+    file: Option<R::File>,
+    faults: u64,
+}
+
+impl<R: Files> FileDocument<R> {
+    pub fn new(rt: R) -> FileDocument<R> {
+        FileDocument {
+            rt,
+            file: None,
+            faults: 0,
+        }
+    }
+
+    // Counts a fault.
+    fn fail(&mut self) -> Failed
+        ensures later { self.old.faults ≤ self.new.faults }
+        ensures rose { Rose self.old.faults self.new.faults }
+    {
+        self.faults = self.faults.saturating_add(1);
+        Failed
+    }
+
+    // Takes bytes of the open file, or tells that it fails.
+    fn take(&mut self, into: &mut [u8]) -> Option<usize>
+        ensures same_faults { self.new.faults ≡ self.old.faults }
+        ensures bound { IfSome result (λ n. n ≤ length into.new) }
+    {
+        match &mut self.file {
+            Some(file) => file.read(into).ok(),
+            None => Some(0),
+        }
+    }
+}
+
+impl<R: Files> Source for FileDocument<R> {
+    ghost use Rattle.std.specs.Prelude.{None};
+
+    ghost left = { λ _. None };
+
+    ghost faults = { λ s. s.faults };
+
+    ghost documents = { λ _. None };
+
+    fn read(&mut self, into: &mut [u8]) -> Result<usize, Failed> {
+        match self.take(into) {
+            Some(count) => Ok(count),
+            None => Err(self.fail()),
+        }
+    }
+}
+
+impl<R: Files> Document for FileDocument<R> {
+    fn begin(&mut self, name: &Text) -> Result<(), CallFault> {
+        self.file = fs::open(&self.rt, name.as_str()).ok();
+        if self.file.is_none() {
+            self.fail();
+            return Err(CallFault::Failed);
+        }
+        Ok(())
     }
 }
 

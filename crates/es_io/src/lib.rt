@@ -10,7 +10,7 @@ mod lines;
 mod memory;
 mod outside;
 
-pub use adapters::{StdSink, StdSource, SystemClock};
+pub use adapters::{FileDocument, StdSink, StdSource, SystemClock};
 pub use lines::{Lines, LinesFault, Step};
 pub use memory::{Documents, ListClock, MemoryDocument, MemorySink, MemorySource};
 pub use outside::{Clock, Document, Sink, Source, write_all};

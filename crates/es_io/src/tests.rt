@@ -1,6 +1,7 @@
 use super::*;
 use es_model::{Bytes, CallFault, Calls, Failed, List, Moment, NoMemory, Text};
 use std::alloc::Global;
+use std::fs;
 use std::test::Fail;
 
 // A source that gives at most so many bytes a call.
@@ -224,6 +225,25 @@ fn documents(rt: HostRuntime) -> Result<(), Fail> {
         assert_eq!(rt; document.begin(&known), Ok(()));
         assert_eq!(rt; document.read(&mut buffer), Ok(5));
         assert_eq!(rt; &buffer[..5], b"first".as_slice());
+        assert_eq!(rt; document.read(&mut buffer), Ok(0));
+    }
+    Ok(())
+}
+
+#[test]
+fn files(rt: HostRuntime) -> Result<(), Fail> {
+    fs::write(&rt, "there", "first")?;
+    let there = Text::from_str(rt.alloc(), "there")?;
+    let absent = Text::from_str(rt.alloc(), "absent")?;
+    let mut document = FileDocument::new(&rt);
+    let mut buffer = [0; 9];
+    assert_eq!(rt; document.read(&mut buffer), Ok(0));
+    for _ in 0..2 {
+        assert_eq!(rt; document.begin(&there), Ok(()));
+        assert_eq!(rt; document.read(&mut buffer), Ok(5));
+        assert_eq!(rt; &buffer[..5], b"first".as_slice());
+        assert_eq!(rt; document.read(&mut buffer), Ok(0));
+        assert_eq!(rt; document.begin(&absent), Err(CallFault::Failed));
         assert_eq!(rt; document.read(&mut buffer), Ok(0));
     }
     Ok(())
