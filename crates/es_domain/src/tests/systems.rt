@@ -55,81 +55,113 @@ fn changed(alloc: Global, topic: &str, balance: Expr) -> Result<EventClass, NoMe
 }
 
 fn trigger(alloc: Global, event: &str, field: &str, expr: Expr) -> Result<Trigger, NoMemory> {
-    Ok(Trigger {
-        event: text(alloc, event)?,
-        fields: assign(alloc, field, expr)?,
-    })
+    let fields = assign(alloc, field, expr)?;
+    let event = text(alloc, event)?;
+    Ok(Trigger { event, fields })
+}
+
+// One trigger, whose event gets a field from a name.
+fn triggers(alloc: Global, event: &str, field: &str, name: &str) -> Result<Triggers, NoMemory> {
+    let value = Expr::Get(text(alloc, name)?);
+    let mut triggers = Triggers::new(alloc);
+    triggers.push(trigger(alloc, event, field, value)?)?;
+    Ok(triggers)
 }
 
 fn guard(alloc: Global, that: Expr, code: &str) -> Result<Guard, NoMemory> {
-    Ok(Guard {
-        that,
-        code: text(alloc, code)?,
-    })
+    let code = text(alloc, code)?;
+    Ok(Guard { that, code })
+}
+
+// The guard that an amount is above 0.
+fn above(alloc: Global) -> Result<Guards, NoMemory> {
+    let that = Expr::Lt(int(alloc, 0)?, get(alloc, "arg.amount")?);
+    let mut guards = Guards::new(alloc);
+    guards.push(guard(alloc, that, "amount")?)?;
+    Ok(guards)
 }
 
 // A command with an amount, which has to be above 0.
 fn of_amount(alloc: Global, name: &str, event: &str) -> Result<CommandDef, NoMemory> {
-    let mut guards = Guards::new(alloc);
-    let above = Expr::Lt(int(alloc, 0)?, get(alloc, "arg.amount")?);
-    guards.push(guard(alloc, above, "amount")?)?;
-    let mut triggers = Triggers::new(alloc);
-    let amount = Expr::Get(text(alloc, "arg.amount")?);
-    triggers.push(trigger(alloc, event, "amount", amount)?)?;
+    let guards = above(alloc)?;
+    let triggers = triggers(alloc, event, "amount", "arg.amount")?;
+    let name = text(alloc, name)?;
+    let params = kind(alloc, "amount", AtomKind::Int)?;
     Ok(CommandDef {
-        name: text(alloc, name)?,
-        params: kind(alloc, "amount", AtomKind::Int)?,
+        name,
+        params,
         guards,
         triggers,
     })
 }
 
 fn open_command(alloc: Global) -> Result<CommandDef, NoMemory> {
-    let mut triggers = Triggers::new(alloc);
-    let owner = Expr::Get(text(alloc, "arg.owner")?);
-    triggers.push(trigger(alloc, "Opened", "owner", owner)?)?;
+    let triggers = triggers(alloc, "Opened", "owner", "arg.owner")?;
+    let name = text(alloc, "Open")?;
+    let params = kind(alloc, "owner", AtomKind::Text)?;
     Ok(CommandDef {
-        name: text(alloc, "Open")?,
-        params: kind(alloc, "owner", AtomKind::Text)?,
+        name,
+        params,
         guards: Guards::new(alloc),
         triggers,
     })
 }
 
-// Deposit, withdraw what is there, and double the balance by a deposit of it after another one.
+// A withdrawal of what is there.
+fn withdraw(alloc: Global) -> Result<CommandDef, NoMemory> {
+    let mut withdraw = of_amount(alloc, "Withdraw", "Withdrawn")?;
+    let funds = Expr::Le(get(alloc, "arg.amount")?, get(alloc, "self.balance")?);
+    withdraw.guards.push(guard(alloc, funds, "funds")?)?;
+    Ok(withdraw)
+}
+
+// A deposit, and then one of the balance.
+fn double(alloc: Global) -> Result<CommandDef, NoMemory> {
+    let mut double = of_amount(alloc, "Double", "Deposited")?;
+    let balance = Expr::Get(text(alloc, "self.balance")?);
+    let second = trigger(alloc, "Deposited", "amount", balance)?;
+    double.triggers.push(second)?;
+    Ok(double)
+}
+
 fn commands(alloc: Global) -> Result<CommandDefs, NoMemory> {
     let mut commands = CommandDefs::new(alloc);
     commands.push(open_command(alloc)?)?;
     commands.push(of_amount(alloc, "Deposit", "Deposited")?)?;
-    let mut withdraw = of_amount(alloc, "Withdraw", "Withdrawn")?;
-    let funds = Expr::Le(get(alloc, "arg.amount")?, get(alloc, "self.balance")?);
-    withdraw.guards.push(guard(alloc, funds, "funds")?)?;
-    commands.push(withdraw)?;
-    let mut double = of_amount(alloc, "Double", "Deposited")?;
-    let balance = Expr::Get(text(alloc, "self.balance")?);
-    double
-        .triggers
-        .push(trigger(alloc, "Deposited", "amount", balance)?)?;
-    commands.push(double)?;
+    commands.push(withdraw(alloc)?)?;
+    commands.push(double(alloc)?)?;
     Ok(commands)
 }
 
-fn account(alloc: Global) -> Result<Class, NoMemory> {
+fn account_fields(alloc: Global) -> Result<Kinds, NoMemory> {
     let mut fields = kind(alloc, "balance", AtomKind::Int)?;
     fields.put(text(alloc, "owner")?, Kind::One(AtomKind::Text))?;
+    Ok(fields)
+}
+
+fn account_events(alloc: Global) -> Result<EventClasses, NoMemory> {
     let mut events = EventClasses::new(alloc);
     let more = Expr::Add(get(alloc, "self.balance")?, get(alloc, "event.amount")?);
     events.push(changed(alloc, "Account.Deposited", more)?)?;
     let less = Expr::Sub(get(alloc, "self.balance")?, get(alloc, "event.amount")?);
     events.push(changed(alloc, "Account.Withdrawn", less)?)?;
+    Ok(events)
+}
+
+fn account(alloc: Global) -> Result<Class, NoMemory> {
+    let fields = account_fields(alloc)?;
+    let created = opened(alloc)?;
+    let events = account_events(alloc)?;
+    let commands = commands(alloc)?;
+    let name = text(alloc, "Account")?;
     Ok(Class {
-        name: text(alloc, "Account")?,
+        name,
         version: 1,
         interval: None,
         fields,
-        created: opened(alloc)?,
+        created,
         events,
-        commands: commands(alloc)?,
+        commands,
     })
 }
 
