@@ -39,7 +39,4 @@ both-ok P Q (Err e) p q = tt
 
 -- a failure of the reader is one of the recorder
 pub cause-of : {T S : Type 0} (before now : ℕ) (decided : Result T FindFault) (result : Result S CallFault) → FindHasCause before now decided → (result ≡ Err call.Failed → decided ≡ Err find.Failed) → CallHasCause before now result
-cause-of before now decided result cause failed = record { later = cause.later; failed = λ is. cause.failed (failed (err result is)) }
-  where
-    err : (r : Result S CallFault) → IsErrOf r call.Failed → r ≡ Err call.Failed
-    err r is = is
+cause-of before now decided result cause failed = record { later = cause.later; failed = λ is. cause.failed (failed is) }

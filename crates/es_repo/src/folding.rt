@@ -40,11 +40,7 @@ fn meaning(
 }
 
 // The aggregate that begins with an event, if one does.
-fn begun(
-    alloc: Global,
-    sys: &System,
-    event: &DomainEvent,
-) -> Result<Option<Aggregate>, NoMemory>
+fn begun(alloc: Global, sys: &System, event: &DomainEvent) -> Result<Option<Aggregate>, NoMemory>
     requires checked { IsCheckedSystem sys.now }
     requires event { FitsItsTopic sys.now event.now }
     ensures made { IfOk result (λ a. a ≡ made (advanced sys.now None event.now)) }

@@ -41,7 +41,9 @@ fn command_decided<R: ProcessRecorder>(
         recorder,
         asked: List::new(alloc),
     };
-    decide_command(alloc, sys, &mut reader, command, at)
+    let decided = decide_command(alloc, sys, &mut reader, command, at);
+    reader.into_recorder();
+    decided
 }
 
 // What the policy of an application decides.
@@ -71,7 +73,9 @@ fn policy_decided<R: ProcessRecorder>(
         recorder,
         asked: List::new(alloc),
     };
-    decide_policy(alloc, sys, app, &mut reader, leader, id, event, at)
+    let decided = decide_policy(alloc, sys, app, &mut reader, leader, id, event, at);
+    reader.into_recorder();
+    decided
 }
 
 /// What a command decides over all that a recorder holds. Nothing is inserted.

@@ -25,6 +25,22 @@ pub(crate) struct Reader<'a, R> {
     pub(crate) asked: List<Uuid>,
 }
 
+impl<'a, R> Reader<'a, R> {
+    /// Gives the recorder back.
+    pub(crate) fn into_recorder(self) -> &'a mut R
+        ensures same_reference { result.ghost_name ≡ self.entry.recorder.ghost_name }
+        ensures recorder { result.now ≡ self.entry.recorder.now }
+    {
+        let Reader {
+            alloc: _,
+            sys: _,
+            recorder,
+            asked: _,
+        } = self;
+        recorder
+    }
+}
+
 // That an event of a version has no meaning, by its notification id; 0 where the recorder knows none.
 fn stuck_at<R: ApplicationRecorder>(
     recorder: &mut R,

@@ -77,22 +77,11 @@ fn account(alloc: Global) -> Result<Class, NoMemory> {
     let balance = Boxed::new(alloc, get(alloc, "self.balance")?)?;
     let more = Expr::Add(balance, Boxed::new(alloc, get(alloc, "event.amount")?)?);
     let mut events = List::new(alloc);
-    events.push(event_class(
-        alloc,
-        "Account.Deposited",
-        number(alloc, "amount")?,
-        more,
-    )?)?;
+    events.push(event_class(alloc, "Account.Deposited", number(alloc, "amount")?, more)?)?;
     let amount = assign(alloc, "amount", get(alloc, "arg.amount")?)?;
     let mut commands = List::new(alloc);
     let none = Kinds::new(alloc);
-    commands.push(command_def(
-        alloc,
-        "Open",
-        none,
-        "Opened",
-        Assigns::new(alloc),
-    )?)?;
+    commands.push(command_def(alloc, "Open", none, "Opened", Assigns::new(alloc))?)?;
     commands.push(command_def(
         alloc,
         "Deposit",
@@ -244,11 +233,7 @@ fn is_insertable(recording: &Recording) -> bool
 }
 
 // Records events of a command.
-fn record(
-    alloc: Global,
-    recorder: &mut MemoryRecorder,
-    events: StoredEvents,
-) -> Result<(), Fail> {
+fn record(alloc: Global, recorder: &mut MemoryRecorder, events: StoredEvents) -> Result<(), Fail> {
     let recording = Recording {
         cause: Cause::Command {
             text: Bytes::new(alloc),
@@ -285,9 +270,14 @@ fn record_all(
     record(rt.alloc(), recorder, events)
 }
 
-const OPENED: &str = "{\"originator_topic\":\"Account\",\"timestamp\":{\"_data_\":\"1970-01-01T00:00:00.000009+00:00\",\"_type_\":\"datetime_iso\"}}";
-const FIVE: &str = "{\"amount\":5,\"timestamp\":{\"_data_\":\"1970-01-01T00:00:00.000009+00:00\",\"_type_\":\"datetime_iso\"}}";
-const TWO: &str = "{\"amount\":2,\"timestamp\":{\"_data_\":\"1970-01-01T00:00:00.000009+00:00\",\"_type_\":\"datetime_iso\"}}";
+const OPENED: &str =
+    "{\"originator_topic\":\"Account\",\"timestamp\":{\"_data_\":\"1970-01-01T00:00:00.000009+00:00\",\"_type_\":\"datetime_iso\"}}";
+
+const FIVE: &str =
+    "{\"amount\":5,\"timestamp\":{\"_data_\":\"1970-01-01T00:00:00.000009+00:00\",\"_type_\":\"datetime_iso\"}}";
+
+const TWO: &str =
+    "{\"amount\":2,\"timestamp\":{\"_data_\":\"1970-01-01T00:00:00.000009+00:00\",\"_type_\":\"datetime_iso\"}}";
 
 #[test]
 fn commands(rt: HostRuntime) -> Result<(), Fail> {
@@ -301,7 +291,12 @@ fn commands(rt: HostRuntime) -> Result<(), Fail> {
     let verdict = judged(rt.alloc(), &mut recorder, "Open", None)?;
     record_all(rt, &mut recorder, verdict, &[(1, "Account.Opened", OPENED)])?;
     let verdict = judged(rt.alloc(), &mut recorder, "Deposit", Some(5))?;
-    record_all(rt, &mut recorder, verdict, &[(2, "Account.Deposited", FIVE)])?;
+    record_all(
+        rt,
+        &mut recorder,
+        verdict,
+        &[(2, "Account.Deposited", FIVE)],
+    )?;
     let mut events = StoredEvents::new(rt.alloc());
     events.push(StoredEvent {
         originator_id: Uuid::from_u128(ID),

@@ -21,11 +21,7 @@ pub enum Verdict {
 }
 
 // Events as they are stored.
-fn all_stored(
-    alloc: Global,
-    sys: &System,
-    events: &[DomainEvent],
-) -> Result<StoredEvents, NoMemory>
+fn all_stored(alloc: Global, sys: &System, events: &[DomainEvent]) -> Result<StoredEvents, NoMemory>
     ensures { IfOk result (λ es. es ≡ map (stored sys.now) events.now) }
 {
     let mut all = StoredEvents::new(alloc);
