@@ -173,14 +173,11 @@ spelled-command d c sound is =
 
 -- ---- its text
 
-ascii : (s : List ℕ) → Rattle.json.proofs.Printed.Utf8.are_ascii s ≡ true → IsUtf8 s
-ascii = IsUtf8-are_ascii
-
 sound-tree : (app : Name) (c : Command) (v : Option ℕ) → IsUtf8 app → IsSpelled c → IsSound (tree_with app c v)
 sound-tree app c None utf8 s =
-    (ascii (codes "app") refl, refl, utf8, (ascii (codes "args") refl, refl, s.args, (ascii (codes "do") refl, refl, s.names, (ascii (codes "id") refl, tt, utf8-simple c.id, tt))))
+    (IsUtf8-are_ascii (codes "app") refl, refl, utf8, (IsUtf8-are_ascii (codes "args") refl, refl, s.args, (IsUtf8-are_ascii (codes "do") refl, refl, s.names, (IsUtf8-are_ascii (codes "id") refl, tt, utf8-simple c.id, tt))))
 sound-tree app c (Some n) utf8 s =
-    (ascii (codes "app") refl, refl, utf8, (ascii (codes "args") refl, refl, s.args, (ascii (codes "do") refl, refl, s.names, (ascii (codes "expect") refl, refl, tt, (ascii (codes "id") refl, tt, utf8-simple c.id, tt)))))
+    (IsUtf8-are_ascii (codes "app") refl, refl, utf8, (IsUtf8-are_ascii (codes "args") refl, refl, s.args, (IsUtf8-are_ascii (codes "do") refl, refl, s.names, (IsUtf8-are_ascii (codes "expect") refl, refl, tt, (IsUtf8-are_ascii (codes "id") refl, tt, utf8-simple c.id, tt)))))
 
 small : (n : ℕ) → IsTrue (is_expectable n) → n < 2 ^ 64
 small n is = let most : n ≤ 1099511627776 = leb-true n 1099511627776 is in omega (arith, most)

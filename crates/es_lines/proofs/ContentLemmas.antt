@@ -26,7 +26,7 @@ whole : (xs : List ℕ) → take (length xs) xs ≡ xs
 whole [] = refl
 whole (x ∷ xs) = ap (λ l. x ∷ l) (whole xs)
 
-back : (p : List ℕ) (x : ℕ) (xs : List ℕ) → x < 128 → IsUtf8 (p ++ x ∷ xs) → IsUtf8 xs
+pub back : (p : List ℕ) (x : ℕ) (xs : List ℕ) → x < 128 → IsUtf8 (p ++ x ∷ xs) → IsUtf8 xs
 back p x xs small utf8 =
     let d : List ℕ = p ++ x ∷ xs in
     let within : length p < length d = omega (arith, length-append p (x ∷ xs)) in
@@ -158,19 +158,19 @@ unit-step false false u xs s small h l more half utf8 is =
     let e = prepended (encode_utf8 u) s (content plain xs) is in
     subst IsUtf8 e.2 (IsUtf8-append (encode_utf8 u) e.0 (IsUtf8-encode u (no-surrogate u small h l)) (more [] e.0 tt utf8 e.1))
 
-half-step : (t low : Bool) (high l : ℕ) (xs s : List ℕ) → is_high_surrogate high ≡ true → is_low_surrogate l ≡ low → Keeps plain xs → IsUtf8 xs
+half-step : (low : Bool) (high l : ℕ) (xs s : List ℕ) → is_high_surrogate high ≡ true → is_low_surrogate l ≡ low → Keeps plain xs → IsUtf8 xs
     → cond low (prepend (encode_utf8 (surrogate_pair high l)) (content plain xs)) None ≡ Some s → IsUtf8 s
-half-step t true high l xs s h is-low more utf8 is =
+half-step true high l xs s h is-low more utf8 is =
     let e = prepended (encode_utf8 (surrogate_pair high l)) s (content plain xs) is in
     subst IsUtf8 e.2 (IsUtf8-append (encode_utf8 (surrogate_pair high l)) e.0 (IsUtf8-encode (surrogate_pair high l) (pair-scalar high l h is-low)) (more [] e.0 tt utf8 e.1))
-half-step t false high l xs s h is-low more utf8 is = absurd (cc is)
+half-step false high l xs s h is-low more utf8 is = absurd (cc is)
 
 high-step : (t : Bool) (high a b c d : ℕ) (xs s : List ℕ) → is_high_surrogate high ≡ true → Keeps plain xs → (t ≡ true → IsUtf8 (a ∷ b ∷ c ∷ d ∷ xs))
     → cond t (option_and_then (λ l. cond (is_low_surrogate l) (prepend (encode_utf8 (surrogate_pair high l)) (content plain xs)) None) (code_unit a b c d)) None ≡ Some s → IsUtf8 s
 high-step false high a b c d xs s h more utf8 is = absurd (cc is)
 high-step true high a b c d xs s h more utf8 is =
     let e = found (λ l. cond (is_low_surrogate l) (prepend (encode_utf8 (surrogate_pair high l)) (content plain xs)) None) (code_unit a b c d) s is in
-    half-step true (is_low_surrogate e.0) high e.0 xs s h refl more (after-four a b c d xs (digits a b c d e.0 e.1) (utf8 refl)) e.2
+    half-step (is_low_surrogate e.0) high e.0 xs s h refl more (after-four a b c d xs (digits a b c d e.0 e.1) (utf8 refl)) e.2
 
 at-slash : (x y : ℕ) (xs : List ℕ) → ((x == 92) && (y == 117)) ≡ true → IsUtf8 (x ∷ y ∷ xs) → IsUtf8 xs
 at-slash x y xs is utf8 =
@@ -209,6 +209,3 @@ keeps-content (after_high h) (x ∷ y ∷ a ∷ b ∷ c ∷ d ∷ xs) p s place 
 -- the content of a string in a text is UTF-8
 pub content-utf8 : (xs s : List ℕ) → IsUtf8 xs → content plain xs ≡ Some s → IsUtf8 s
 content-utf8 xs s utf8 is = keeps-content plain xs [] s tt utf8 is
-
-pub after-ascii : (p : List ℕ) (x : ℕ) (xs : List ℕ) → x < 128 → IsUtf8 (p ++ x ∷ xs) → IsUtf8 xs
-after-ascii = back

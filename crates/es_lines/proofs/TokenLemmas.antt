@@ -16,7 +16,7 @@ use Rattle.json.proofs.Unique.Spelling.{value-json_tokens_back}
 use Rattle.serde_json.specs.Data as tree
 use Rattle.serde_json.specs.Data.{Data, Items, no_items, item, Members, no_members, member, put}
 use Rattle.serde_json.specs.Read.{number_of, of_json, of_items, of_members, read, max_depth}
-use Rattle.es_lines.proofs.ContentLemmas.{content-utf8, after-ascii, found}
+use Rattle.es_lines.proofs.ContentLemmas.{content-utf8, back, found}
 
 -- ---- tokens
 
@@ -98,7 +98,7 @@ sound-lex m [] p utf8 = tt
 sound-lex m (x ∷ xs) p utf8 =
     let text : class x ≡ quote → IsSoundToken (string_token (content plain xs)) = λ is.
     let small : x < 128 = omega (arith, eqb-true x 34 (class-quote (x == ascii.quote) (x == ascii.backslash) (is_operator x) (is_space x) is)) in
-    sound-string (content plain xs) (λ s e. content-utf8 xs s (after-ascii p x xs small utf8) e)
+    sound-string (content plain xs) (λ s e. content-utf8 xs s (back p x xs small utf8) e)
     in
     sound-byte m (class x) x xs (λ next. lex next xs) text (λ next. sound-lex next xs (p ++ x ∷ []) (subst IsUtf8 (sym (append_assoc p (x ∷ []) xs)) utf8))
 
@@ -217,12 +217,9 @@ less o is = ap is_lt is
 greater-less : (k l : List ℕ) → slice_cmp nat_cmp k l ≡ Greater → IsTrue (is-before l k)
 greater-less k l is = less (slice_cmp nat_cmp l k) (nat_list_cmp_total.antisymm l k ∙ ap ordering_reverse is)
 
-equal-first : (k l : List ℕ) (ms : Members) → slice_cmp nat_cmp k l ≡ Equal → IsFirst l ms → IsFirst l ms
-equal-first k l ms is first = first
-
-first-put : (l k : List ℕ) (d : Data) (ms : Members) (o : (x : List ℕ) → Ordering) → IsTrue (is-before l k) → IsFirst l ms → IsFirst l (put k d ms)
-first-put l k d no_members o before first = before
-first-put l k d (member m e ms) o before first = step (slice_cmp nat_cmp k m)
+first-put : (l k : List ℕ) (d : Data) (ms : Members) → IsTrue (is-before l k) → IsFirst l ms → IsFirst l (put k d ms)
+first-put l k d no_members before first = before
+first-put l k d (member m e ms) before first = step (slice_cmp nat_cmp k m)
   where
     step : (c : Ordering) → IsFirst l (match_ordering c (member k d (member m e ms)) (member m d ms) (member m e (put k d ms)))
     step Less = before
@@ -233,7 +230,7 @@ has-put-step : (o : Ordering) (k l : List ℕ) (d e : Data) (ms : Members) → s
     → HasSound (match_ordering o (member k d (member l e ms)) (member l d ms) (member l e (put k d ms)))
 has-put-step Less k l d e ms is utf8 sound all rest = (utf8, less (slice_cmp nat_cmp k l) is, sound, all)
 has-put-step Equal k l d e ms is utf8 sound all rest = (all.0, all.1, sound, all.3)
-has-put-step Greater k l d e ms is utf8 sound all rest = (all.0, first-put l k d ms (λ x. Less) (greater-less k l is) all.1, all.2, rest)
+has-put-step Greater k l d e ms is utf8 sound all rest = (all.0, first-put l k d ms (greater-less k l is) all.1, all.2, rest)
 
 has-put : (k : List ℕ) (d : Data) (ms : Members) → IsUtf8 k → IsSound d → HasSound ms → HasSound (put k d ms)
 has-put k d no_members utf8 sound all = (utf8, tt, sound, tt)

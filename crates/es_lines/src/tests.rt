@@ -312,41 +312,37 @@ fn refused_end(alloc: Global) -> Result<End, NoMemory> {
     })
 }
 
-// Ends with names and numbers, and their texts.
-fn named_ends(alloc: Global) -> Result<[(End, &'static str); 7], NoMemory> {
-    let turns = End::Turns {
-        app: Text::from_str(alloc, "audit")?,
+fn turns_end(alloc: Global) -> Result<End, NoMemory> {
+    Ok(End::Turns {
+        app: text(alloc, "audit")?,
         turns: 6,
-    };
-    let unreadable = End::Unreadable {
-        app: Text::from_str(alloc, "bank")?,
+    })
+}
+
+fn unreadable_end(alloc: Global) -> Result<End, NoMemory> {
+    Ok(End::Unreadable {
+        app: text(alloc, "bank")?,
         id: 8,
-    };
-    let full = End::Full {
-        app: Text::from_str(alloc, "audit")?,
+    })
+}
+
+fn full_end(alloc: Global) -> Result<End, NoMemory> {
+    Ok(End::Full {
+        app: text(alloc, "audit")?,
         last: 9,
         capacity: 10,
-    };
-    let declaration = End::Declaration {
+    })
+}
+
+fn declaration_end(alloc: Global, path: &str) -> Result<End, NoMemory> {
+    Ok(End::Declaration {
         code: Code::Fields,
-        path: Text::from_str(alloc, "/classes/0/set/a\"\u{1}")?,
-    };
-    let empty = End::Declaration {
-        code: Code::Json,
-        path: Text::from_str(alloc, "")?,
-    };
-    Ok([
-        (declaration, DECLARATION_END),
-        (
-            empty,
-            "{\"code\":\"json\",\"end\":\"declaration\",\"path\":\"\"}",
-        ),
-        (ok_end(alloc)?, OK_END),
-        (refused_end(alloc)?, REFUSED_END),
-        (turns, TURNS_END),
-        (unreadable, UNREADABLE_END),
-        (full, FULL_END),
-    ])
+        path: text(alloc, path)?,
+    })
+}
+
+fn has_text(alloc: Global, end: &End, expected: &str) -> Result<bool, NoMemory> {
+    Ok(end_text(alloc, end)?.as_slice() == expected.as_bytes())
 }
 
 const FIXED_ENDS: [(End, &str); 7] = [
@@ -362,9 +358,26 @@ const FIXED_ENDS: [(End, &str); 7] = [
 #[test]
 fn ends_have_their_texts(rt: HostRuntime) -> Result<(), Fail> {
     let alloc = rt.alloc();
-    for (end, expected) in named_ends(alloc)?.into_iter().chain(FIXED_ENDS) {
-        let text = end_text(alloc, &end)?;
-        assert!(rt; text.as_slice() == expected.as_bytes(), "{expected}");
+    assert!(rt; has_text(alloc, &ok_end(alloc)?, OK_END)?);
+    assert!(rt; has_text(alloc, &refused_end(alloc)?, REFUSED_END)?);
+    assert!(rt; has_text(alloc, &turns_end(alloc)?, TURNS_END)?);
+    assert!(rt; has_text(alloc, &unreadable_end(alloc)?, UNREADABLE_END)?);
+    assert!(rt; has_text(alloc, &full_end(alloc)?, FULL_END)?);
+    Ok(())
+}
+
+#[test]
+fn paths_are_escaped(rt: HostRuntime) -> Result<(), Fail> {
+    let alloc = rt.alloc();
+    let end = declaration_end(alloc, "/classes/0/set/a\"\u{1}")?;
+    assert!(rt; has_text(alloc, &end, DECLARATION_END)?);
+    Ok(())
+}
+
+#[test]
+fn fixed_ends_have_their_texts(rt: HostRuntime) -> Result<(), Fail> {
+    for (end, expected) in FIXED_ENDS {
+        assert!(rt; has_text(rt.alloc(), &end, expected)?, "{expected}");
     }
     Ok(())
 }
