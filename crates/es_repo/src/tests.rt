@@ -1,14 +1,14 @@
-ghost use Rattle.std.specs.Prelude.{IsTrue};
+ghost use Rattle.std.specs.Prelude.{IsTrue, IfOk};
+ghost use Rattle.es_expr.specs.Checked.{IsCheckedSystem};
 ghost use Rattle.es_recorder.specs.Insert.{IsInsertable};
 
 use super::*;
+use es_decl::read_system;
 use es_domain::Command;
-use es_expr::is_checked;
 use es_memory::MemoryRecorder;
 use es_model::{
-    App, Assigns, Atom, AtomKind, Boxed, Bytes, Cause, Class, CommandDef, DomainEvent, EventClass,
-    Expr, Fields, Kind, Kinds, List, Moment, NoMemory, Otherwise, Recording, Rule, StoredEvent,
-    StoredEvents, System, Text, Trigger, Value, are_of_kinds,
+    Atom, Bytes, Cause, DomainEvent, Fields, Moment, NoMemory, Recording, StoredEvent,
+    StoredEvents, System, Text, Value, are_of_kinds,
 };
 use es_recorder::ProcessRecorder;
 use std::alloc::Global;
@@ -21,129 +21,17 @@ fn text(alloc: Global, text: &str) -> Result<Text, NoMemory> {
     Text::from_str(alloc, text)
 }
 
-fn get(alloc: Global, name: &str) -> Result<Expr, NoMemory> {
-    Ok(Expr::Get(text(alloc, name)?))
-}
+// An account is opened empty, and takes deposits. The ledger deposits twice what was deposited in the bank.
+const LEDGER: &str =
+    "{\"apps\":[{\"classes\":[\"Account\"],\"name\":\"bank\"},{\"classes\":[\"Account\"],\"name\":\"ledger\",\"policy\":[{\"args\":{\"amount\":{\"get\":\"event.amount\"}},\"do\":\"Account.Deposit\",\"on\":\"Account.Deposited\",\"target\":{\"get\":\"id\"}},{\"args\":{\"amount\":{\"get\":\"event.amount\"}},\"do\":\"Account.Deposit\",\"on\":\"Account.Deposited\",\"target\":{\"get\":\"id\"}}]}],\"classes\":[{\"commands\":[{\"name\":\"Open\",\"params\":{},\"trigger\":[{\"event\":\"Opened\",\"fields\":{}}]},{\"name\":\"Deposit\",\"params\":{\"amount\":\"int\"},\"trigger\":[{\"event\":\"Deposited\",\"fields\":{\"amount\":{\"get\":\"arg.amount\"}}}]}],\"created\":{\"fields\":{},\"name\":\"Opened\",\"set\":{\"balance\":{\"int\":0}}},\"events\":[{\"fields\":{\"amount\":\"int\"},\"name\":\"Deposited\",\"set\":{\"balance\":{\"add\":[{\"get\":\"self.balance\"},{\"get\":\"event.amount\"}]}}}],\"fields\":{\"balance\":\"int\"},\"name\":\"Account\"}],\"pipes\":[[\"bank\",\"ledger\"]]}";
 
-fn assign(alloc: Global, name: &str, expr: Expr) -> Result<Assigns, NoMemory> {
-    let mut assigns = Assigns::new(alloc);
-    assigns.put(text(alloc, name)?, expr)?;
-    Ok(assigns)
-}
-
-// A number of this name.
-fn number(alloc: Global, name: &str) -> Result<Kinds, NoMemory> {
-    let mut kinds = Kinds::new(alloc);
-    kinds.put(text(alloc, name)?, Kind::One(AtomKind::Int))?;
-    Ok(kinds)
-}
-
-fn event_class(
-    alloc: Global,
-    topic: &str,
-    fields: Kinds,
-    balance: Expr,
-) -> Result<EventClass, NoMemory> {
-    Ok(EventClass {
-        topic: text(alloc, topic)?,
-        fields,
-        upcasts: List::new(alloc),
-        assigns: assign(alloc, "balance", balance)?,
-    })
-}
-
-fn command_def(
-    alloc: Global,
-    name: &str,
-    params: Kinds,
-    event: &str,
-    fields: Assigns,
-) -> Result<CommandDef, NoMemory> {
-    let mut triggers = List::new(alloc);
-    triggers.push(Trigger {
-        event: text(alloc, event)?,
-        fields,
-    })?;
-    Ok(CommandDef {
-        name: text(alloc, name)?,
-        params,
-        guards: List::new(alloc),
-        triggers,
-    })
-}
-
-// An account is opened empty, and takes deposits.
-fn account(alloc: Global) -> Result<Class, NoMemory> {
-    let balance = Boxed::new(alloc, get(alloc, "self.balance")?)?;
-    let more = Expr::Add(balance, Boxed::new(alloc, get(alloc, "event.amount")?)?);
-    let mut events = List::new(alloc);
-    events.push(event_class(alloc, "Account.Deposited", number(alloc, "amount")?, more)?)?;
-    let amount = assign(alloc, "amount", get(alloc, "arg.amount")?)?;
-    let mut commands = List::new(alloc);
-    let none = Kinds::new(alloc);
-    commands.push(command_def(alloc, "Open", none, "Opened", Assigns::new(alloc))?)?;
-    commands.push(command_def(
-        alloc,
-        "Deposit",
-        number(alloc, "amount")?,
-        "Deposited",
-        amount,
-    )?)?;
-    Ok(Class {
-        name: text(alloc, "Account")?,
-        version: 1,
-        interval: None,
-        fields: number(alloc, "balance")?,
-        created: event_class(alloc, "Account.Opened", Kinds::new(alloc), Expr::Int(0))?,
-        events,
-        commands,
-    })
-}
-
-fn app(alloc: Global, name: &str, policies: List<Rule>) -> Result<App, NoMemory> {
-    let mut classes = List::new(alloc);
-    classes.push(text(alloc, "Account")?)?;
-    Ok(App {
-        name: text(alloc, name)?,
-        classes,
-        policies,
-        section_size: None,
-    })
-}
-
-// The ledger deposits twice what was deposited in the bank.
-fn rules(alloc: Global) -> Result<List<Rule>, NoMemory> {
-    let mut rules = List::new(alloc);
-    for _ in 0..2 {
-        rules.push(Rule {
-            topic: text(alloc, "Account.Deposited")?,
-            leader: None,
-            when: None,
-            target: get(alloc, "id")?,
-            command: text(alloc, "Account.Deposit")?,
-            args: assign(alloc, "amount", get(alloc, "event.amount")?)?,
-            otherwise: Otherwise::Refuse,
-        })?;
+fn system(alloc: Global) -> Result<System, Fail>
+    ensures { IfOk result IsCheckedSystem }
+{
+    match read_system(alloc, LEDGER.as_bytes()) {
+        Ok(sys) => Ok(sys),
+        Err(_) => Err("no system".into()),
     }
-    Ok(rules)
-}
-
-fn system(alloc: Global) -> Result<System, NoMemory> {
-    let mut classes = List::new(alloc);
-    classes.push(account(alloc)?)?;
-    let mut apps = List::new(alloc);
-    apps.push(app(alloc, "bank", List::new(alloc))?)?;
-    apps.push(app(alloc, "ledger", rules(alloc)?)?)?;
-    let mut pipe = List::new(alloc);
-    pipe.push(text(alloc, "bank")?)?;
-    pipe.push(text(alloc, "ledger")?)?;
-    let mut pipes = List::new(alloc);
-    pipes.push(pipe)?;
-    Ok(System {
-        apps,
-        classes,
-        pipes,
-    })
 }
 
 fn with_amount(alloc: Global, amount: Option<i64>) -> Result<Fields, NoMemory> {
@@ -162,9 +50,6 @@ fn judged(
     amount: Option<i64>,
 ) -> Result<Verdict, Fail> {
     let sys = system(alloc)?;
-    if !is_checked(alloc, &sys)? {
-        return Err("the system is not checked".into());
-    }
     let command = Command {
         class: text(alloc, "Account")?,
         name: text(alloc, name)?,
@@ -190,9 +75,6 @@ fn judged(
 // The verdict of the ledger on a deposit of 2 in the bank.
 fn ruled(alloc: Global, recorder: &mut MemoryRecorder) -> Result<Verdict, Fail> {
     let sys = system(alloc)?;
-    if !is_checked(alloc, &sys)? {
-        return Err("the system is not checked".into());
-    }
     let event = DomainEvent {
         originator_id: Uuid::from_u128(ID),
         originator_version: 8,

@@ -15,8 +15,8 @@ use Rattle.es_recorder.specs.Insert.{too_many}
 use Rattle.es_top.specs.declared.faults.RunFault.{RunFault}
 use Rattle.es_top.specs.declared.faults.RunFault.TheVariants as fault
 use Rattle.es_top.specs.declared.request.OpenAccount.{OpenAccount}
-use Rattle.es_top.specs.declared.texts.End.TheVariants.{Full, Turns}
-use Rattle.es_top.specs.declared.texts.Reply.TheVariants.{Accepted}
+use Rattle.es_lines.specs.declared.ends.End.TheVariants.{Full, Turns}
+use Rattle.es_lines.specs.declared.replies.Reply.TheVariants.{Accepted}
 use Rattle.es_top.specs.Answer.{Answer, says, accepts, ends, answer_of, accept_unless, recording_of, Followed, adds, stops, add_unless, followed_of, followed, options}
 use Rattle.es_top.specs.Decision.{Decision, Logs, events, refused, unreadable}
 use Rattle.es_top.specs.Leaves.{Adds, Gives, MayAdd, Leaves, opening_answer, MayTake, Records, Takes}

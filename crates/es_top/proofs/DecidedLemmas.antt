@@ -9,9 +9,9 @@ use Rattle.es_model.specs.History.{log, latest}
 use Rattle.es_model.specs.Values.{Name, Id}
 use Rattle.es_recorder.specs.Insert.{too_many}
 use Rattle.es_recorder.specs.declared.recorder.InsertFault.{InsertFault}
-use Rattle.es_top.specs.declared.texts.Reply.{Reply}
-use Rattle.es_top.specs.declared.texts.Reply.TheVariants.{Conflict}
-use Rattle.es_top.specs.declared.texts.End.TheVariants.{Ok, Turns}
+use Rattle.es_lines.specs.declared.replies.Reply.{Reply}
+use Rattle.es_lines.specs.declared.replies.Reply.TheVariants.{Conflict}
+use Rattle.es_lines.specs.declared.ends.End.TheVariants.{Ok, Turns}
 use Rattle.es_top.specs.Answer.{Options, says, accepts, ends, answer, answer_of, accept_unless, differs, recording_of, adds, stops, add_unless, followed_of, followed}
 use Rattle.es_top.specs.Decision.{Rules, Logs, Decision, events, refused, unreadable}
 

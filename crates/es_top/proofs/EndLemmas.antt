@@ -9,17 +9,17 @@ use Rattle.es_model.specs.Tracking.{tracked_in}
 use Rattle.es_model.specs.Values.{Name}
 use Rattle.es_io.specs.Front.{AppendsFront}
 use Rattle.es_io.specs.Readings.{Readings}
-use Rattle.es_top.specs.declared.texts.End.{End}
-use Rattle.es_top.specs.declared.texts.End.TheVariants as end
-use Rattle.es_top.specs.declared.texts.Status.{Status}
-use Rattle.es_top.specs.declared.texts.Status.TheVariants as status
+use Rattle.es_lines.specs.declared.ends.End.{End}
+use Rattle.es_lines.specs.declared.ends.End.TheVariants as end
+use Rattle.es_top.specs.declared.status.Status.{Status}
+use Rattle.es_top.specs.declared.status.Status.TheVariants as status
 use Rattle.es_top.specs.Ends.{status_of, is_fixed, code_of}
 use Rattle.es_top.specs.Ran.{RanBy, IfOwn, IsNotUsage}
 use Rattle.es_top.specs.Reached.{ahead}
 use Rattle.es_top.specs.Sample.{bank, audit, sample}
 use Rattle.es_top.specs.Session.{writes_in}
 use Rattle.es_top.specs.SingleThread.{Step, Run, IsRun, start, left_by, written_by, as_line}
-use Rattle.es_top.specs.Texts.{end_text}
+use Rattle.es_lines.specs.Texts.{end_text}
 use Rattle.es_top.specs.Top.{limits, most_line, most_input, Ran, RanInPart, RanIntoText, ReadTo, FollowingEnd, OfRun, OfCut, AreOccupied, AreEmpty, IfTold, LeavesConsistent, IsTied, EndsWith, IfRun, IsDone, IfOkStatus}
 use Rattle.es_top.proofs.ConsistentLemmas.{IsConsistent-opening}
 use Rattle.es_top.proofs.DrainLemmas.{run-exists}
@@ -51,7 +51,9 @@ module _ (i : List ℕ) (r : Readings) (h : Histories) (left : Option (List ℕ)
   staged end.Input not x = inl (record { part = x.0; follows = tt })
   staged end.Recorder not x = inl (record { part = x; follows = tt })
   staged end.NotBuilt not x = inr (refl, x.0, x.1)
-  staged end.Usage not x = absurd (not refl)
+  staged end.Usage not x = absurd (not.0 refl)
+  staged (end.Declaration code path) not x = absurd (not.1 code path refl)
+  staged end.System not x = absurd (not.2 refl)
 
   -- what was written after the run
   abbrev pub part_then : (w : Option (List ℕ)) (tail : List ℕ) → RanInPart i r h new u v [] → Appends v w tail → RanInPart i r h new u w tail
@@ -87,6 +89,8 @@ module _ (i : List ℕ) (r : Readings) (h : Histories) (left : Option (List ℕ)
   ran_whole w end.Recorder x line = tt
   ran_whole w end.NotBuilt x line = tt
   ran_whole w end.Usage x line = tt
+  ran_whole w (end.Declaration code path) x line = tt
+  ran_whole w end.System x line = tt
 
   pub cut_whole : (w : Option (List ℕ)) (e : End) → RanBy i r h left new u v (Ok e) → Appends v w (as_line (end_text e)) → OfCut (status_of e) (λ x. RanInPart i r h new u w (as_line (end_text x)))
   cut_whole w (end.Ok added lines) x line = tt
@@ -100,6 +104,8 @@ module _ (i : List ℕ) (r : Readings) (h : Histories) (left : Option (List ℕ)
   cut_whole w end.Recorder x line = part_then w (as_line (end_text end.Recorder)) x line
   cut_whole w end.NotBuilt x line = tt
   cut_whole w end.Usage x line = tt
+  cut_whole w (end.Declaration code path) x line = tt
+  cut_whole w end.System x line = tt
 
   -- want of memory for the end line
   pub cut_starved : (w : Option (List ℕ)) (e : End) → Stage i r h new u v e → Appends v w (as_line (end_text end.Memory)) → RanInPart i r h new u w (as_line (end_text end.Memory))
@@ -216,6 +222,8 @@ module _ (i : List ℕ) (r : Readings) (h : Histories) (left : Option (List ℕ)
       by_end end.Recorder same x line = absurd (cc same)
       by_end end.NotBuilt same x line = absurd (cc same)
       by_end end.Usage same x line = absurd (cc same)
+      by_end (end.Declaration code path) same x line = absurd (cc same)
+      by_end end.System same x line = absurd (cc same)
 
       by_ends : Ends e s → (x : RanInPart i r h new u w (as_line (end_text end.Input))) × ReadTo i r h left x.done
       by_ends (inl whole) = by_end e (sym is ∙ whole) ran (told.whole whole)
@@ -249,6 +257,8 @@ module _ (i : List ℕ) (r : Readings) (h : Histories) (left : Option (List ℕ)
   tied_end end.Recorder x line = inl (tied_whole end.Recorder x line (λ z. absurd (cc z)) refl)
   tied_end end.NotBuilt x line = tt
   tied_end end.Usage x line = tt
+  tied_end (end.Declaration code path) x line = tt
+  tied_end end.System x line = tt
 
   pub top_session : (e ≡ end.NotBuilt → AreOccupied h) → IfRun s (TiedBy s)
   top_session occupied = by_ends told.ends
@@ -286,6 +296,8 @@ module _ (i : List ℕ) (r : Readings) (h : Histories) (left : Option (List ℕ)
   done_end end.Recorder empty x = tt
   done_end end.NotBuilt empty x = tt
   done_end end.Usage empty x = tt
+  done_end (end.Declaration code path) empty x = tt
+  done_end end.System empty x = tt
 
   pub top_reached : IfOwn e (AreEmpty h) → IfOkStatus s (λ added lines. IsDone i h new added lines)
   top_reached empty = by_ends told.ends
@@ -335,6 +347,8 @@ which_end e s (inl is) told = not_built e (sym told ∙ is)
     not_built end.Over same = absurd (cc same)
     not_built end.Memory same = absurd (cc same)
     not_built end.Usage same = absurd (cc same)
+    not_built (end.Declaration code path) same = absurd (cc same)
+    not_built end.System same = absurd (cc same)
     not_built end.Input same = absurd (cc same)
     not_built end.Recorder same = absurd (cc same)
     not_built end.NotBuilt same = refl

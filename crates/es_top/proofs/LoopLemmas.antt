@@ -9,8 +9,8 @@ use Rattle.es_top.specs.declared.faults.RunFault.{RunFault}
 use Rattle.es_top.specs.declared.faults.RunFault.TheVariants as fault
 use Rattle.es_top.specs.declared.run.Stop.{Stop}
 use Rattle.es_top.specs.declared.run.Stop.TheVariants as stop
-use Rattle.es_top.specs.declared.texts.End.{End}
-use Rattle.es_top.specs.declared.texts.End.TheVariants as end
+use Rattle.es_lines.specs.declared.ends.End.{End}
+use Rattle.es_lines.specs.declared.ends.End.TheVariants as end
 use Rattle.es_top.specs.Answer.{Options}
 use Rattle.es_top.specs.Drains.{Drains}
 use Rattle.es_top.specs.Sample.{bank, sample}

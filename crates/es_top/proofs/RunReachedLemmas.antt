@@ -13,16 +13,16 @@ use Rattle.es_model.specs.Values.{Name, Id}
 use Rattle.es_model.proofs.HistoryLemmas.{size-push}
 use Rattle.es_io.specs.Readings.{Readings, first_reading, later_readings}
 use Rattle.es_recorder.specs.Held.{put}
-use Rattle.es_top.specs.declared.texts.End.{End}
-use Rattle.es_top.specs.declared.texts.End.TheVariants.{Ok}
-use Rattle.es_top.specs.declared.texts.Reply.{Reply}
-use Rattle.es_top.specs.declared.texts.Reply.TheVariants.{Syntax, Long, Conflict}
+use Rattle.es_lines.specs.declared.ends.End.{End}
+use Rattle.es_lines.specs.declared.ends.End.TheVariants.{Ok}
+use Rattle.es_lines.specs.declared.replies.Reply.{Reply}
+use Rattle.es_lines.specs.declared.replies.Reply.TheVariants.{Syntax, Long, Conflict}
 use Rattle.es_top.specs.Answer.{Options, Answer, says, accepts, ends, answer, differs, Followed, adds, stops, followed}
 use Rattle.es_top.specs.Decision.{Rules, logs_of}
 use Rattle.es_top.specs.Reached.{tracked_of, last_of, IsReached, ahead}
 use Rattle.es_top.specs.Requests.{Request, command, no_request}
 use Rattle.es_top.specs.SingleThread.{Place, Turn, goes_on, turn_of, line_turn, request_turn, command_turn, next_turn, followed_turn, past_line, only_says, does_nothing, prompt, is_among, led_by, leaders_of, Step, records, writes, Run, IsRun, start, left_by}
-use Rattle.es_top.specs.Texts.{reply_text}
+use Rattle.es_lines.specs.Texts.{reply_text}
 use Rattle.es_top.proofs.AmongLemmas.{contains-here, contains-none, contains-cases, contains-left, contains-last, led-contains, leaders-contains, among-contains, contains-among, put-here, put-other, put-cases, same-or-not, same-name}
 use Rattle.es_top.proofs.DecidedLemmas.{IsDecided, answer-accepts, answer-ends, followed-adds, followed-stops}
 use Rattle.es_top.proofs.FollowsLemmas.{tracked_in-push}

@@ -13,10 +13,10 @@ use Rattle.es_model.specs.Tracking.{tracked_in}
 use Rattle.es_model.specs.Values.{Name, Id}
 use Rattle.es_io.specs.Readings.{Readings, first_reading, later_readings}
 use Rattle.es_recorder.specs.Held.{put}
-use Rattle.es_top.specs.declared.texts.End.{End}
-use Rattle.es_top.specs.declared.texts.End.TheVariants.{Ok, Over}
-use Rattle.es_top.specs.declared.texts.Reply.{Reply}
-use Rattle.es_top.specs.declared.texts.Reply.TheVariants.{Syntax, Long, Conflict}
+use Rattle.es_lines.specs.declared.ends.End.{End}
+use Rattle.es_lines.specs.declared.ends.End.TheVariants.{Ok, Over}
+use Rattle.es_lines.specs.declared.replies.Reply.{Reply}
+use Rattle.es_lines.specs.declared.replies.Reply.TheVariants.{Syntax, Long, Conflict}
 use Rattle.es_top.specs.Answer.{Options, Answer, says, accepts, ends, answer, answer_of, differs, Followed, adds, stops, followed}
 use Rattle.es_top.specs.Consistent.{IsConsistent}
 use Rattle.es_top.specs.Decision.{Rules, logs_of}
@@ -25,7 +25,7 @@ use Rattle.es_top.specs.Lawful.{IsLawful}
 use Rattle.es_top.specs.Requests.{Request, command, no_request}
 use Rattle.es_top.specs.Session.{Answered, IsReading, AnswersLine, AnswersRequest, AreAnswered, lines_in, replies_in, writes_in, accepted_in, if_of, commands_in, is_command, IsOfFirst, IsSession}
 use Rattle.es_top.specs.SingleThread.{Place, Turn, goes_on, turn_of, line_turn, request_turn, command_turn, next_turn, followed_turn, past_line, only_says, does_nothing, prompt, led_by, added_counts, Step, records, writes, Run, IsRun, start, left_by, written_by, as_line}
-use Rattle.es_top.specs.Texts.{reply_text}
+use Rattle.es_lines.specs.Texts.{reply_text}
 use Rattle.es_top.proofs.AmongLemmas.{contains-here, contains-later, contains-none, contains-filter, put-here}
 use Rattle.es_top.proofs.ConsistentLemmas.{IsConsistent-opening, IsConsistent-push}
 use Rattle.es_top.proofs.DecidedLemmas.{IsDecided, answer-accepts, answer-ends, followed-adds, followed-stops, same_version}

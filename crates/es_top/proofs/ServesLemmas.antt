@@ -17,10 +17,10 @@ use Rattle.es_top.specs.declared.faults.RunFault.TheVariants as fault
 use Rattle.es_top.specs.declared.request.OpenAccount.{OpenAccount}
 use Rattle.es_top.specs.declared.run.Stop.{Stop}
 use Rattle.es_top.specs.declared.run.Stop.TheVariants as stop
-use Rattle.es_top.specs.declared.texts.End.{End}
-use Rattle.es_top.specs.declared.texts.End.TheVariants.{Refused, Turns, Unreadable, Full}
-use Rattle.es_top.specs.declared.texts.Reply.{Reply}
-use Rattle.es_top.specs.declared.texts.Reply.TheVariants as reply
+use Rattle.es_lines.specs.declared.ends.End.{End}
+use Rattle.es_lines.specs.declared.ends.End.TheVariants.{Refused, Turns, Unreadable, Full}
+use Rattle.es_lines.specs.declared.replies.Reply.{Reply}
+use Rattle.es_lines.specs.declared.replies.Reply.TheVariants as reply
 use Rattle.es_top.specs.Answer.{Options, Answer, says, accepts, ends, answer_of, accept_unless, recording_of}
 use Rattle.es_top.specs.Decision.{Decision, events, refused, unreadable}
 use Rattle.es_top.specs.Drains.{Drains}
@@ -31,7 +31,7 @@ use Rattle.es_top.specs.Sample.{bank, audit, sample, sample_request, decide_open
 use Rattle.es_top.specs.Serves.{SaysIt, at_line, past_it, after_reply, prompted_by, DrainsAfter, Still, RepliesAndDrains, AnswersLine}
 use Rattle.es_top.specs.SingleThread.{Outcome, goes_on, turn_at, request_turn, command_turn, only_says, Step, records, writes, steps_of, left_by, written_by, as_line}
 use Rattle.es_top.specs.Standing.{State, Setting, standing, histories_with, Came, Ended, CutShort, Faulted}
-use Rattle.es_top.specs.Texts.{reply_text}
+use Rattle.es_lines.specs.Texts.{reply_text}
 use Rattle.es_top.proofs.SingleThreadLemmas.{Goes-none, Goes-one, run-finished}
 use Rattle.es_top.proofs.StandingLemmas.{appends_nothing, Cut-none, Cut-turn, came_then, came_faulted}
 

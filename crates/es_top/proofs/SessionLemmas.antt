@@ -10,7 +10,7 @@ use Rattle.es_model.specs.Values.{Name, Id}
 use Rattle.es_io.specs.Readings.{Readings, first_reading, later_readings}
 use Rattle.es_recorder.specs.Held.{put}
 use Rattle.es_top.specs.Answer.{Options, answer, answer_of, differs, says}
-use Rattle.es_top.specs.declared.texts.Reply.TheVariants.{Conflict}
+use Rattle.es_lines.specs.declared.replies.Reply.TheVariants.{Conflict}
 use Rattle.es_top.specs.Decision.{Rules, Logs, logs_of}
 use Rattle.es_top.specs.Lawful.{IsLocal}
 use Rattle.es_top.specs.Requests.{Request, command, no_request}

@@ -20,8 +20,8 @@ use Rattle.es_top.specs.declared.application.Processed.{Processed}
 use Rattle.es_top.specs.declared.application.Processed.TheVariants.{Recorded, Skipped, Gap}
 use Rattle.es_top.specs.declared.faults.RunFault.{RunFault}
 use Rattle.es_top.specs.declared.faults.RunFault.TheVariants as fault
-use Rattle.es_top.specs.declared.texts.End.{End}
-use Rattle.es_top.specs.declared.texts.End.TheVariants.{Refused, Turns, Unreadable, Full}
+use Rattle.es_lines.specs.declared.ends.End.{End}
+use Rattle.es_lines.specs.declared.ends.End.TheVariants.{Refused, Turns, Unreadable, Full}
 use Rattle.es_top.specs.Answer.{Options, options, Followed, adds, stops, followed, followed_of}
 use Rattle.es_top.specs.Decision.{Logs, logs_of}
 use Rattle.es_top.specs.Drains.{trying, FindsNext, MayFailToRead, FollowsOne, FollowsAll, DrainsLeader}

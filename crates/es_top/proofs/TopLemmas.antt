@@ -12,8 +12,8 @@ use Rattle.es_io.specs.Readings.{Readings}
 use Rattle.es_recorder.specs.Held.{put, SameElsewhere, Closes, ClosesTold}
 use Rattle.es_top.specs.declared.faults.RunFault.{RunFault}
 use Rattle.es_top.specs.declared.faults.RunFault.TheVariants as fault
-use Rattle.es_top.specs.declared.texts.End.{End}
-use Rattle.es_top.specs.declared.texts.End.TheVariants as end
+use Rattle.es_lines.specs.declared.ends.End.{End}
+use Rattle.es_lines.specs.declared.ends.End.TheVariants as end
 use Rattle.es_top.specs.Faults.{end_of}
 use Rattle.es_top.specs.Ran.{state_of, IsRunOver, PartRun, WholeRun, Runs, Untouched, RunsOrNot, CountsTold, SameBesides, RanBy, IfOwn, all_lines}
 use Rattle.es_top.specs.Sample.{bank, audit, sample}
@@ -242,6 +242,8 @@ module _ (openings : Histories) (r : Readings) (i : List ℕ) (left : Option (Li
       by_end end.Recorder z = z
       by_end end.NotBuilt z = absurd z
       by_end end.Usage z = z
+      by_end (end.Declaration code path) z = z
+      by_end end.System z = z
 
 -- what is put at the two names may be put in either order
 put_commute : (f : Histories) (b a : List Recording) → put (put f bank b) audit a ≡ put (put f audit a) bank b
@@ -343,6 +345,8 @@ module _ (i : List ℕ) (r : Readings) (h : Histories) (left : Option (List ℕ)
   ran_by (Ok end.Recorder) x = cut_of x
   ran_by (Ok end.NotBuilt) x = untouched_of x
   ran_by (Ok end.Usage) x = x
+  ran_by (Ok (end.Declaration code path)) x = x
+  ran_by (Ok end.System) x = x
 
 -- nothing was run
 pub ran_none : (i : List ℕ) (r : Readings) (h : Histories) (new : Option Histories) (u w : Option (List ℕ)) → new ≡ Some h → w ≡ u → RanInPart i r h new u w []
@@ -363,6 +367,8 @@ own_unit end.Input P p = tt
 own_unit end.Recorder P p = tt
 own_unit end.NotBuilt P p = tt
 own_unit end.Usage P p = tt
+own_unit (end.Declaration code path) P p = tt
+own_unit end.System P p = tt
 
 pub empty_told : (held : Option Histories) (result : Result End Failed) → ((h : Histories) → held ≡ Some h → IfOk result (λ e. IfOwn e (AreEmpty h))) → IfOk result (λ e. IfOwn e (IfTold held AreEmpty))
 empty_told None (Ok e) told = own_unit e (Unit {0}) tt

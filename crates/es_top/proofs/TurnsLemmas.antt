@@ -2,7 +2,7 @@
 use Rattle.std.proofs.Common.{◌≡◌, ◌⊎◌, inl, inr, ℕ, zero, suc, List, [], ◌∷◌, ◌++◌, Option, Some, None, refl, sym, ap, ◌∙◌, subst, append-nil, append_assoc}
 use Rattle.std.specs.Option.{option_map}
 use Rattle.es_model.specs.History.{Histories}
-use Rattle.es_top.specs.declared.texts.End.{End}
+use Rattle.es_lines.specs.declared.ends.End.{End}
 use Rattle.es_top.specs.Answer.{Options}
 use Rattle.es_top.specs.Decision.{Rules}
 use Rattle.es_top.specs.SingleThread.{Place, Turn, finished, goes_on, turn_at, Step, Run, steps_of, after, go_on, run_within, IsRun}

@@ -8,10 +8,10 @@ use Rattle.es_model.specs.History.{log, latest}
 use Rattle.es_model.specs.Values.{Name, Id}
 use Rattle.es_recorder.specs.Insert.{too_many, inserted}
 use Rattle.es_recorder.specs.declared.recorder.InsertFault.{InsertFault}
-use Rattle.es_top.specs.declared.texts.Reply.{Reply}
-use Rattle.es_top.specs.declared.texts.Reply.TheVariants as reply
-use Rattle.es_top.specs.declared.texts.End.{End}
-use Rattle.es_top.specs.declared.texts.End.TheVariants.{Full, Refused, Turns, Unreadable}
+use Rattle.es_lines.specs.declared.replies.Reply.{Reply}
+use Rattle.es_lines.specs.declared.replies.Reply.TheVariants as reply
+use Rattle.es_lines.specs.declared.ends.End.{End}
+use Rattle.es_lines.specs.declared.ends.End.TheVariants.{Full, Refused, Turns, Unreadable}
 use Rattle.es_top.specs.Decision.{Rules, Logs, Decision, events, refused, unreadable}
 
 -- how many events each application may hold, and how many notifications each follower may record in a run

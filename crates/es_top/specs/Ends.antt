@@ -1,15 +1,17 @@
 -- Statuses, and the ends of a run that they tell.
 use Rattle.std.specs.Prelude.{ℕ, Bool, true, false}
-use Rattle.es_top.specs.declared.texts.End.{End}
-use Rattle.es_top.specs.declared.texts.End.TheVariants as end
-use Rattle.es_top.specs.declared.texts.Status.{Status}
-use Rattle.es_top.specs.declared.texts.Status.TheVariants as status
+use Rattle.es_lines.specs.declared.ends.End.{End}
+use Rattle.es_lines.specs.declared.ends.End.TheVariants as end
+use Rattle.es_top.specs.declared.status.Status.{Status}
+use Rattle.es_top.specs.declared.status.Status.TheVariants as status
 
 -- the status of an end whose line was written
 abbrev pub status_of : End → Status
 status_of (end.Ok added lines) = status.Ok added lines
 status_of end.Memory = status.Memory
 status_of end.Usage = status.Usage
+status_of (end.Declaration code path) = status.Declaration code path
+status_of end.System = status.System
 status_of end.Input = status.Input
 status_of end.Recorder = status.Recorder
 status_of (end.Refused app leader id recordings code rule) = status.Refused app leader id recordings code rule
@@ -24,6 +26,8 @@ abbrev pub code_of : Status → ℕ
 code_of (status.Ok added lines) = 0
 code_of status.Memory = 1
 code_of status.Usage = 2
+code_of (status.Declaration code path) = 3
+code_of status.System = 4
 code_of status.Input = 5
 code_of status.Sink = 6
 code_of status.Recorder = 7
@@ -37,12 +41,14 @@ code_of status.NotBuilt = 15
 -- the ends whose lines have fixed bytes
 abbrev pub is_fixed : End → Bool
 is_fixed (end.Ok added lines) = false
+is_fixed (end.Declaration code path) = false
 is_fixed (end.Refused app leader id recordings code rule) = false
 is_fixed (end.Turns app turns) = false
 is_fixed (end.Unreadable app id) = false
 is_fixed (end.Full app last capacity) = false
 is_fixed end.Memory = true
 is_fixed end.Usage = true
+is_fixed end.System = true
 is_fixed end.Input = true
 is_fixed end.Recorder = true
 is_fixed end.Over = true

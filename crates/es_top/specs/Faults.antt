@@ -3,8 +3,8 @@ use Rattle.es_model.specs.declared.memory.CallFault.{CallFault}
 use Rattle.es_model.specs.declared.memory.CallFault.TheVariants as call
 use Rattle.es_top.specs.declared.faults.RunFault.{RunFault}
 use Rattle.es_top.specs.declared.faults.RunFault.TheVariants as fault
-use Rattle.es_top.specs.declared.texts.End.{End}
-use Rattle.es_top.specs.declared.texts.End.TheVariants as end
+use Rattle.es_lines.specs.declared.ends.End.{End}
+use Rattle.es_lines.specs.declared.ends.End.TheVariants as end
 
 abbrev pub of_call : CallFault → RunFault
 of_call call.Failed = fault.Recorder

@@ -13,7 +13,7 @@ use Rattle.es_top.specs.declared.application.Processed.TheVariants.{Recorded, Sk
 use Rattle.es_top.specs.declared.faults.RunFault.{RunFault}
 use Rattle.es_top.specs.declared.faults.RunFault.TheVariants as fault
 use Rattle.es_top.specs.declared.request.OpenAccount.{OpenAccount}
-use Rattle.es_top.specs.declared.texts.Reply.{Reply}
+use Rattle.es_lines.specs.declared.replies.Reply.{Reply}
 use Rattle.es_top.specs.Answer.{Answer, says, accepts, ends, answer_of, Followed, adds, stops}
 use Rattle.es_top.specs.Decision.{events, refused}
 use Rattle.es_top.specs.Faults.{ByFault}

@@ -17,6 +17,5 @@ pub mod Session
 pub mod SingleThread
 pub mod Standing
 pub mod Taken
-pub mod Texts
 pub mod Top
 pub mod Words

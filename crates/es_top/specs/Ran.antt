@@ -1,14 +1,15 @@
 -- What running over opened applications leaves, before the end line.
 use Rattle.std.specs.Prelude.{◌≡◌, ◌⊎◌, ◌<◌, ℕ, Bool, true, false, List, [], ◌∷◌, ◌++◌, length, Option, Some, None, Result, Ok, Err}
 use Rattle.std.specs.Io.KnownBytes.{Appends}
+use Rattle.es_model.specs.declared.declaration.Code.{Code}
 use Rattle.es_model.specs.declared.event.Recording.{Recording}
 use Rattle.es_model.specs.declared.memory.Failed.{Failed}
 use Rattle.es_model.specs.History.{Histories}
 use Rattle.es_model.specs.Lines.{Line, lines_of}
 use Rattle.es_model.specs.Values.{Name}
 use Rattle.es_io.specs.Readings.{Readings}
-use Rattle.es_top.specs.declared.texts.End.{End}
-use Rattle.es_top.specs.declared.texts.End.TheVariants as end
+use Rattle.es_lines.specs.declared.ends.End.{End}
+use Rattle.es_lines.specs.declared.ends.End.TheVariants as end
 use Rattle.es_top.specs.Sample.{bank, audit, sample}
 use Rattle.es_top.specs.SingleThread.{Step, Run, IsRun, start, left_by, written_by}
 use Rattle.es_top.specs.Standing.{State, histories_with, IsFrontOf}
@@ -55,7 +56,7 @@ all_lines input = lines_of most_line most_input input
 abbrev pub ReadRun : Histories → Readings → List ℕ → Option (List ℕ) → Option (List Recording) → Option (List Recording) → Option (List ℕ) → Option (List ℕ) → Type 0
 ReadRun openings readings input left b a before now = (x : PartRun openings readings (all_lines input) b a before now []) × ReadTo input readings openings left x.done
 
--- a claim by the end: of a run that came to an end of its own, of one that was cut short, and that reading cut short, and of stores that are occupied (wrong words never come here)
+-- a claim by the end: of a run that came to an end of its own, of one that was cut short, and that reading cut short, and of stores that are occupied (wrong words never come here, nor a document)
 abbrev pub ByEnd : End → (End → Type 0) → Type 0 → Type 0 → Type 0 → Type 0
 ByEnd (end.Ok added lines) own cut read occupied = own (end.Ok added lines)
 ByEnd (end.Refused app leader id recordings code rule) own cut read occupied = own (end.Refused app leader id recordings code rule)
@@ -68,6 +69,8 @@ ByEnd end.Input own cut read occupied = read
 ByEnd end.Recorder own cut read occupied = cut
 ByEnd end.NotBuilt own cut read occupied = occupied
 ByEnd end.Usage own cut read occupied = Unit {0}
+ByEnd (end.Declaration code path) own cut read occupied = Unit {0}
+ByEnd end.System own cut read occupied = Unit {0}
 
 -- what a run over empty applications leaves, by how it ended; or the sink failed in a text
 abbrev pub Runs : Histories → Readings → List ℕ → Option (List ℕ) → Option (List Recording) → Option (List Recording) → Option (List ℕ) → Option (List ℕ) → Result End Failed → Type 0
@@ -94,13 +97,13 @@ CountsTold b a lines e = (e ≡ end.Ok ((audit, length a) ∷ (bank, length b) �
 abbrev pub IsCounted : End → Type 0
 IsCounted e = ((added : List (Name × ℕ)) × (lines : ℕ) × (e ≡ end.Ok added lines)) ⊎ ((e ≡ end.Memory) ⊎ (e ≡ end.Recorder))
 
+-- an end that comes after the words were accepted; no document is read yet
+abbrev pub IsNotUsage : End → Type 0
+IsNotUsage e = (e ≡ end.Usage → ⊥) × ((code : Code) (path : List ℕ) → e ≡ end.Declaration code path → ⊥) × (e ≡ end.System → ⊥)
+
 -- an end that comes of running lines
 abbrev pub IsRunning : End → Type 0
-IsRunning e = (e ≡ end.Usage → ⊥) × (e ≡ end.NotBuilt → ⊥)
-
--- an end that comes after the words were accepted
-abbrev pub IsNotUsage : End → Type 0
-IsNotUsage e = e ≡ end.Usage → ⊥
+IsRunning e = IsNotUsage e × (e ≡ end.NotBuilt → ⊥)
 
 -- whether one of the two histories holds a recording
 abbrev pub IsOccupiedTest : List Recording → List Recording → Bool → Type 0

@@ -9,14 +9,14 @@ use Rattle.es_io.specs.Front.{AppendsFront}
 use Rattle.es_top.specs.declared.faults.RunFault.TheVariants as fault
 use Rattle.es_top.specs.declared.run.Stop.{Stop}
 use Rattle.es_top.specs.declared.run.Stop.TheVariants as stop
-use Rattle.es_top.specs.declared.texts.Reply.{Reply}
-use Rattle.es_top.specs.declared.texts.Reply.TheVariants as reply
-use Rattle.es_top.specs.declared.texts.End.TheVariants as end
+use Rattle.es_lines.specs.declared.replies.Reply.{Reply}
+use Rattle.es_lines.specs.declared.replies.Reply.TheVariants as reply
+use Rattle.es_lines.specs.declared.ends.End.TheVariants as end
 use Rattle.es_top.specs.Answer.{Options}
 use Rattle.es_top.specs.Sample.{bank, sample}
 use Rattle.es_top.specs.SingleThread.{Step, Goes, written_by, as_line}
 use Rattle.es_top.specs.Standing.{State, Places, stand, Came, Ended, CutInText, Faulted}
-use Rattle.es_top.specs.Texts.{reply_text}
+use Rattle.es_lines.specs.Texts.{reply_text}
 
 -- a reply was written as a line, or a front of it where the sink failed, or nothing for want of memory
 abbrev pub SaysIt : Reply → Option (List ℕ) → Option (List ℕ) → Result (Unit {0}) Stop → Type 0
@@ -69,6 +69,8 @@ abbrev pub prompted_by : Reply → List Name → List Name
 prompted_by (reply.Accepted recording first last version) prompted = prompted
 prompted_by (reply.Refused code) prompted = []
 prompted_by reply.Syntax prompted = []
+prompted_by reply.Unknown prompted = []
+prompted_by reply.Kind prompted = []
 prompted_by reply.Long prompted = []
 prompted_by (reply.Conflict latest) prompted = []
 prompted_by (reply.Unreadable app id) prompted = []

@@ -8,13 +8,13 @@ use Rattle.es_model.specs.History.{Histories}
 use Rattle.es_model.specs.Lines.{Line, text, long, over}
 use Rattle.es_model.specs.Values.{Name, Id}
 use Rattle.es_io.specs.Readings.{Readings}
-use Rattle.es_top.specs.declared.texts.Reply.{Reply}
-use Rattle.es_top.specs.declared.texts.Reply.TheVariants.{Syntax, Long}
+use Rattle.es_lines.specs.declared.replies.Reply.{Reply}
+use Rattle.es_lines.specs.declared.replies.Reply.TheVariants.{Syntax, Long}
 use Rattle.es_top.specs.Answer.{Options, Answer, says, accepts, answer, differs}
 use Rattle.es_top.specs.Decision.{Rules, logs_of}
 use Rattle.es_top.specs.Requests.{Request, command, no_request}
 use Rattle.es_top.specs.SingleThread.{as_line, Step, records, writes}
-use Rattle.es_top.specs.Texts.{reply_text}
+use Rattle.es_lines.specs.Texts.{reply_text}
 
 -- an answered line and its reply; where it asks something of an application, that application, the mark, which is how many of its recordings the answer is given over, and the moment; and, where it was accepted, the recording that it added, with its application
 pub record Answered : Type 0 where

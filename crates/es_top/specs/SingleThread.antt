@@ -11,14 +11,14 @@ use Rattle.es_model.specs.Tracking.{tracked_in}
 use Rattle.es_model.specs.Values.{Name}
 use Rattle.es_io.specs.Readings.{Readings, first_reading, later_readings}
 use Rattle.es_recorder.specs.Held.{put}
-use Rattle.es_top.specs.declared.texts.Reply.{Reply}
-use Rattle.es_top.specs.declared.texts.Reply.TheVariants.{Syntax, Long, Conflict}
-use Rattle.es_top.specs.declared.texts.End.{End}
-use Rattle.es_top.specs.declared.texts.End.TheVariants.{Ok, Over}
+use Rattle.es_lines.specs.declared.replies.Reply.{Reply}
+use Rattle.es_lines.specs.declared.replies.Reply.TheVariants.{Syntax, Long, Conflict}
+use Rattle.es_lines.specs.declared.ends.End.{End}
+use Rattle.es_lines.specs.declared.ends.End.TheVariants.{Ok, Over}
 use Rattle.es_top.specs.Answer.{Options, Answer, says, accepts, ends, answer, differs, Followed, adds, stops, followed}
 use Rattle.es_top.specs.Decision.{Rules, logs_of}
 use Rattle.es_top.specs.Requests.{Request, command, no_request}
-use Rattle.es_top.specs.Texts.{reply_text}
+use Rattle.es_lines.specs.Texts.{reply_text}
 
 -- where a run stands: the histories, the readings to come, how many notifications each follower has recorded in this run, the leaders that are prompted, the pairs of the last leader taken that are still to be tried, the lines to come, and how many were answered
 pub record Place : Type 0 where

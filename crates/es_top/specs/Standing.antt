@@ -8,7 +8,7 @@ use Rattle.es_model.specs.Lines.{Line}
 use Rattle.es_model.specs.Values.{Name}
 use Rattle.es_io.specs.Readings.{Readings}
 use Rattle.es_recorder.specs.Held.{put}
-use Rattle.es_top.specs.declared.texts.End.{End}
+use Rattle.es_lines.specs.declared.ends.End.{End}
 use Rattle.es_top.specs.declared.applications.Applications.{Applications}
 use Rattle.es_top.specs.declared.faults.RunFault.{RunFault}
 use Rattle.es_top.specs.Answer.{Options}

@@ -5,10 +5,10 @@ use Rattle.es_model.specs.History.{Histories}
 use Rattle.es_model.specs.Lines.{lines_of, NoLineFeed}
 use Rattle.es_model.specs.Values.{Name}
 use Rattle.es_io.specs.Readings.{Readings}
-use Rattle.es_top.specs.declared.texts.End.{End}
-use Rattle.es_top.specs.declared.texts.End.TheVariants as end
-use Rattle.es_top.specs.declared.texts.Status.{Status}
-use Rattle.es_top.specs.declared.texts.Status.TheVariants as status
+use Rattle.es_lines.specs.declared.ends.End.{End}
+use Rattle.es_lines.specs.declared.ends.End.TheVariants as end
+use Rattle.es_top.specs.declared.status.Status.{Status}
+use Rattle.es_top.specs.declared.status.Status.TheVariants as status
 use Rattle.es_top.specs.Answer.{Options}
 use Rattle.es_top.specs.Consistent.{IsConsistent}
 use Rattle.es_top.specs.Reached.{IsReached}
@@ -17,7 +17,7 @@ use Rattle.es_top.specs.Session.{IsSession}
 use Rattle.es_top.specs.SingleThread.{Step, Run, IsRun, start, added_counts, left_by, written_by, as_line}
 use Rattle.es_top.specs.Standing.{IsFrontOf}
 use Rattle.es_top.specs.Taken.{EndsLine}
-use Rattle.es_top.specs.Texts.{end_text}
+use Rattle.es_lines.specs.Texts.{end_text}
 
 -- how many events an application may have, how many notifications a follower may record, how long a line may be, and how long all lines together
 abbrev pub most_events : ℕ
@@ -107,6 +107,8 @@ OfRun (status.Full app last capacity) P = P (end.Full app last capacity)
 OfRun status.Over P = P end.Over
 OfRun status.Memory P = Unit {0}
 OfRun status.Usage P = Unit {0}
+OfRun (status.Declaration code path) P = Unit {0}
+OfRun status.System P = Unit {0}
 OfRun status.Input P = Unit {0}
 OfRun status.Sink P = Unit {0}
 OfRun status.Recorder P = Unit {0}
@@ -124,6 +126,8 @@ OfCut (status.Unreadable app id) P = Unit {0}
 OfCut (status.Full app last capacity) P = Unit {0}
 OfCut status.Over P = Unit {0}
 OfCut status.Usage P = Unit {0}
+OfCut (status.Declaration code path) P = Unit {0}
+OfCut status.System P = Unit {0}
 OfCut status.Sink P = Unit {0}
 OfCut status.NotBuilt P = Unit {0}
 
@@ -171,6 +175,8 @@ EndsWith status.Input tail = tail ≡ as_line (end_text end.Input)
 EndsWith status.Recorder tail = tail ≡ as_line (end_text end.Recorder)
 EndsWith status.Sink tail = Unit {0}
 EndsWith status.Usage tail = Unit {0}
+EndsWith (status.Declaration code path) tail = Unit {0}
+EndsWith status.System tail = Unit {0}
 EndsWith status.NotBuilt tail = Unit {0}
 
 -- the bytes that were written are a session over what the stores hold, and then the end line
@@ -197,6 +203,8 @@ IfRun status.Input P = P
 IfRun status.Recorder P = P
 IfRun status.Sink P = P
 IfRun status.Usage P = Unit {0}
+IfRun (status.Declaration code path) P = Unit {0}
+IfRun status.System P = Unit {0}
 IfRun status.NotBuilt P = Unit {0}
 
 -- a run that ended well: each follower has reached its leaders' last notifications, all lines were answered, and the end line counts them and the recordings
@@ -219,4 +227,6 @@ IfOkStatus status.Input P = Unit {0}
 IfOkStatus status.Recorder P = Unit {0}
 IfOkStatus status.Sink P = Unit {0}
 IfOkStatus status.Usage P = Unit {0}
+IfOkStatus (status.Declaration code path) P = Unit {0}
+IfOkStatus status.System P = Unit {0}
 IfOkStatus status.NotBuilt P = Unit {0}

@@ -12,8 +12,8 @@ ghost use Rattle.es_top.specs.Sample.{sample, opened, is_meant as meaning_test, 
 use crate::faults::RunFault;
 use crate::request::OpenAccount;
 use crate::states;
-use crate::texts::Reply;
 use es_io::Clock;
+use es_lines::Reply;
 use es_model::{
     Bytes, Cause, Duplicate, Moment, NoMemory, Notification, Recording, StoredEvent, StoredEvents,
     Text,

@@ -7,10 +7,10 @@ mod faults;
 mod request;
 mod run;
 mod states;
-mod texts;
+mod status;
 mod top;
 
-pub use texts::{End, Reply, Status, end_text, reply_text};
+pub use status::Status;
 pub use top::evsys_single;
 
 #[cfg(test)]

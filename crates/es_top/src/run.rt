@@ -16,8 +16,8 @@ ghost use Rattle.es_top.specs.Taken.{UsesTold, Taken};
 use crate::applications::Applications;
 use crate::faults::RunFault;
 use crate::request::{OpenAccount, read_opening};
-use crate::texts::{Reply, reply_text};
 use es_io::{Clock, Lines, LinesFault, Sink, Source, Step, write_all};
+use es_lines::{Reply, reply_text};
 use es_model::{Failed, NoMemory, Text};
 use es_recorder::ProcessRecorder;
 use std::alloc::Global;
@@ -114,6 +114,8 @@ fn drain_after<R: ProcessRecorder, C: Clock>(
         },
         Reply::Refused { code: _ } => Ok(()),
         Reply::Syntax => Ok(()),
+        Reply::Unknown => Ok(()),
+        Reply::Kind => Ok(()),
         Reply::Long => Ok(()),
         Reply::Conflict { latest: _ } => Ok(()),
         Reply::Unreadable { app: _, id: _ } => Ok(()),

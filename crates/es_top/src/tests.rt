@@ -1,8 +1,9 @@
 use crate::application::{Application, Processed};
 use crate::applications::Applications;
 use crate::faults::RunFault;
-use crate::{End, Reply, Status, end_text, evsys_single, reply_text};
+use crate::{Status, evsys_single};
 use es_io::{ListClock, MemoryDocument, MemorySink, MemorySource};
+use es_lines::{End, Reply, end_text, reply_text};
 use es_memory::{Content, Contents, MemoryRecorder, MemoryStores, are_formed, is_formed};
 use es_model::{
     Bytes, CallFault, Calls, Cause, Counts, Duplicate, List, Moment, Moments, NoMemory,

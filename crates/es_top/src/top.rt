@@ -15,16 +15,17 @@ ghost use Rattle.es_top.specs.Ran.{Runs, RunsOrNot, state_of, CountsTold, IsCoun
 ghost use Rattle.es_top.specs.Sample.{bank, audit, sample, audit as audit_name, bank as bank_name};
 ghost use Rattle.es_top.specs.SingleThread.{as_line, HasOneRun, start};
 ghost use Rattle.es_top.specs.Standing.{State, Holds, Later, SameNames, SomeRose, histories_with};
-ghost use Rattle.es_top.specs.Texts.{end_text as text_of_end};
+ghost use Rattle.es_lines.specs.Texts.{end_text as text_of_end};
 ghost use Rattle.es_top.specs.Top.{limits, WhereTold, OfRun, OfCut, Ran, RanInPart, RanIntoText, ReadTo, AreOccupied, AreEmpty, IfTold, IsLeft, LeavesConsistent, IsTied, IfRun, IsDone, IfOkStatus};
 ghost use Rattle.es_top.specs.Words.{is_run_sample};
 
+use crate::Status;
 use crate::application::Application;
 use crate::applications::Applications;
 use crate::faults::RunFault;
 use crate::run::{Stop, serve, write_line};
-use crate::texts::{End, Status, end_text};
 use es_io::{Clock, Document, Lines, Sink, Source};
+use es_lines::{End, end_text};
 use es_model::{Bytes, CallFault, Counts, Failed, NoMemory, Text};
 use es_recorder::{ProcessRecorder, Stores};
 use std::alloc::Global;
@@ -70,6 +71,8 @@ fn fixed_line(end: &End) -> Option<&'static [u8]>
         } => None,
         End::Memory => Some(b"{\"end\":\"memory\"}\n"),
         End::Usage => Some(b"{\"end\":\"usage\"}\n"),
+        End::Declaration { code: _, path: _ } => None,
+        End::System => Some(b"{\"end\":\"system\"}\n"),
         End::Input => Some(b"{\"end\":\"input\"}\n"),
         End::Recorder => Some(b"{\"end\":\"recorder\"}\n"),
         End::Over => Some(b"{\"end\":\"over\"}\n"),

@@ -1,6 +1,6 @@
 use Rattle.std.proofs.Common.{refl}
 use Rattle.es_model.specs.Lines.{text}
-use Rattle.es_top.specs.declared.texts.Reply.TheVariants.{Syntax}
+use Rattle.es_lines.specs.declared.replies.Reply.TheVariants.{Syntax}
 use Rattle.es_top.proofs.ServesLemmas.{said_only, nothing_asked, cut_at_line}
 use Rattle.es_top.proofs.run.answer_line.Goals as goal
 

@@ -26,3 +26,9 @@ returns-in-Conflict-clause-drained g c = λ options s u held. not_drained option
 
 pub returns-in-Unreadable-clause-drained : goal.returns-in-Unreadable-clause-drained
 returns-in-Unreadable-clause-drained g c = λ options s u held. not_drained options s _ c.args.prompted.now c.args.reply.now u (ap (λ r. prompted_by r c.args.prompted.now) c.in-Unreadable.is) held
+
+pub returns-in-Unknown-clause-drained : goal.returns-in-Unknown-clause-drained
+returns-in-Unknown-clause-drained g c = λ options s u held. not_drained options s _ c.args.prompted.now c.args.reply.now u (ap (λ r. prompted_by r c.args.prompted.now) c.in-Unknown.is) held
+
+pub returns-in-Kind-clause-drained : goal.returns-in-Kind-clause-drained
+returns-in-Kind-clause-drained g c = λ options s u held. not_drained options s _ c.args.prompted.now c.args.reply.now u (ap (λ r. prompted_by r c.args.prompted.now) c.in-Kind.is) held

@@ -1,6 +1,6 @@
 use Rattle.std.proofs.Common.{refl}
 use Rattle.es_model.specs.Lines.{long}
-use Rattle.es_top.specs.declared.texts.Reply.TheVariants.{Long}
+use Rattle.es_lines.specs.declared.replies.Reply.TheVariants.{Long}
 use Rattle.es_top.proofs.ServesLemmas.{said_only, too_long}
 use Rattle.es_top.proofs.LoopLemmas.{line_turned, long_turned}
 use Rattle.es_top.proofs.TakenLemmas.{on_ok, line_used, long_used}

@@ -1,5 +1,5 @@
 use Rattle.std.proofs.Common.{◌≡◌, ◌∙◌, ap, sym, refl, inl, Ok}
-use Rattle.es_top.specs.declared.texts.End.TheVariants as end
+use Rattle.es_lines.specs.declared.ends.End.TheVariants as end
 use Rattle.es_top.specs.Ends.{status_of}
 use Rattle.es_top.specs.Sample.{sample}
 use Rattle.es_top.specs.Top.{limits}
