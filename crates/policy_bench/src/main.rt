@@ -14,7 +14,6 @@ ghost use Rattle.es_domain.specs.Decision.{IsNotice, notice};
 
 use declared::{account, deposit, system, text};
 use es_domain::{Aggregate, Decision, FindFault, decide_policy};
-use es_expr::is_checked;
 use es_model::{DomainEvent, Moment, System, Text, are_of_kinds};
 use held::Held;
 use std::alloc::Global;
@@ -92,12 +91,14 @@ fn decide_all(
 }
 
 // The same, where they may be decided.
-fn measure(alloc: Global, sys: &System, count: u64) -> anyhow::Result<usize> {
+fn measure(alloc: Global, sys: &System, count: u64) -> anyhow::Result<usize>
+    requires { IsCheckedSystem sys.now }
+{
     let account = account(alloc)?;
     let event = deposit(alloc)?;
     let leader = text(alloc, "bank")?;
     let ledger = text(alloc, "ledger")?;
-    if !is_checked(alloc, sys)? || !is_app(sys, &ledger) {
+    if !is_app(sys, &ledger) {
         return Err(anyhow::anyhow!("no system"));
     }
     if !is_notice(sys, &leader, 1, &event) {
@@ -117,7 +118,9 @@ fn report(
     alloc: Global,
     sys: &System,
     count: u64,
-) -> anyhow::Result<()> {
+) -> anyhow::Result<()>
+    requires { IsCheckedSystem sys.now }
+{
     let before = Instant::now(rt)?;
     let events = measure(alloc, sys, count)?;
     let decisions = rate(count, before.elapsed(rt)?);
