@@ -19,7 +19,7 @@ mod parts;
 mod pipes;
 mod words;
 
-pub use builtin::sample;
+pub use builtin::{SAMPLE, sample};
 pub use document::read_system;
 pub use fault::DeclFault;
 pub use pipes::{Pairs, followers, followers_of, leaders, leaders_only, pairs, processors};
