@@ -1,0 +1,122 @@
+-- What applications hold after one of them changed.
+use Rattle.std.proofs.Common.{◌≡◌, ◌≤◌, ℕ, zero, suc, true, false, List, [], ◌∷◌, Option, Some, None, Contains, slice_get, slice_set, option_map, refl, sym, ap, ◌∙◌, subst, arith}
+use Rattle.std.proofs.lemmas.Option.{slice_get-map}
+use Rattle.es_model.specs.Causes.{Rose}
+use Rattle.es_model.specs.History.{Histories}
+use Rattle.es_model.specs.Values.{Name}
+use Rattle.es_model.specs.declared.event.Recording.{Recording}
+use Rattle.es_model.specs.declared.snapshot.Snapshot.{Snapshot}
+use Rattle.es_io.specs.Readings.{Readings}
+use Rattle.es_process.specs.declared.application.Application.{Application}
+use Rattle.es_process.specs.Answer.{Options}
+use Rattle.es_process.specs.SingleThread.{is_among}
+use Rattle.es_process.specs.Standing.{State, HoldsOne, Holds, HoldHistories, AreElsewhere, AreDistinct, IsSame, names_in, snapshots_in, faults_at, count_of, Later, SomeRose}
+use Rattle.es_process.proofs.AmongLemmas.{contains-here, contains-later, contains-among}
+use Rattle.es_process.proofs.SetLemmas.{get-same, get-cases, map-set}
+
+pub contains-at : {A : Type 0} (xs : List A) (i : ℕ) (x : A) → slice_get xs i ≡ Some x → Contains xs x
+contains-at [] i x at = absurd (cc at)
+contains-at (y ∷ ys) zero x at = let is : y ≡ x = cc in subst (Contains (y ∷ ys)) is (contains-here y ys)
+contains-at (y ∷ ys) (suc i) x at = contains-later y ys x (contains-at ys i x at)
+
+module _ {R : Type 0} where
+  -- the name of an application at its place
+  pub name-at : (apps : List (Application R)) (i : ℕ) (a : Application R) → slice_get apps i ≡ Some a → slice_get (names_in apps) i ≡ Some a.name
+  name-at apps i a at = slice_get-map (λ x. x.name) apps i ∙ ap (option_map (λ x. x.name)) at
+
+  -- an application at the place of a name
+  pub app-at : (apps : List (Application R)) (i : ℕ) (n : Name) → slice_get (names_in apps) i ≡ Some n → (a : Application R) × (slice_get apps i ≡ Some a) × (a.name ≡ n)
+  app-at apps i n at = by (slice_get apps i) refl
+    where
+      by : (o : Option (Application R)) → slice_get apps i ≡ o → (a : Application R) × (slice_get apps i ≡ Some a) × (a.name ≡ n)
+      by None is = absurd (let e : None ≡ Some n = sym (slice_get-map (λ x. x.name) apps i ∙ ap (option_map (λ x. x.name)) is) ∙ at in cc e)
+      by (Some a) is = (a, is, let e : Some a.name ≡ Some n = sym (slice_get-map (λ x. x.name) apps i ∙ ap (option_map (λ x. x.name)) is) ∙ at in (let f : a.name ≡ n = cc in f))
+
+  -- a name that is elsewhere is not that of an application
+  pub other-name : (apps : List (Application R)) (i : ℕ) (a : Application R) (n : Name) → slice_get apps i ≡ Some a → is_among n (names_in apps) ≡ false → n ≡ a.name → ⊥
+  other-name apps i a n at none is =
+      let here : is_among n (names_in apps) ≡ true = ap (λ m. is_among m (names_in apps)) is ∙ contains-among a.name (names_in apps) (contains-at (names_in apps) i a.name (name-at apps i a at)) in
+      let clash : false ≡ true = sym none ∙ here in absurd (cc clash)
+
+  module _ (apps : List (Application R)) (distinct : AreDistinct (names_in apps)) (i : ℕ) (a b : Application R) (at : slice_get apps i ≡ Some a) (named : b.name ≡ a.name) where
+    pub names-kept : names_in (slice_set apps i b) ≡ names_in apps
+    names-kept = map-set (λ x. x.name) apps i b a at named
+
+    -- the name of another application is another
+    apart : (j : ℕ) (c : Application R) → (j ≡ i → ⊥) → slice_get apps j ≡ Some c → c.name ≡ a.name → ⊥
+    apart j c other there is = other (distinct j i a.name (name-at apps j c there ∙ ap Some is) (name-at apps i a at))
+
+    elsewhere-kept : (base : Histories) (h k : Histories) → ((n : Name) → (n ≡ a.name → ⊥) → k n ≡ h n) → AreElsewhere base apps h → AreElsewhere base (slice_set apps i b) k
+    elsewhere-kept base h k same away = λ n none.
+        let was : is_among n (names_in apps) ≡ false = ap (is_among n) (sym names-kept) ∙ none in
+        same n (other-name apps i a n at was) ∙ away n was
+
+    -- the histories, where one changed
+    pub histories-set : (history : R → Option (List Recording)) (base h k : Histories) → HoldHistories history base apps h → history b.recorder ≡ Some (k a.name) → ((n : Name) → (n ≡ a.name → ⊥) → k n ≡ h n)
+        → HoldHistories history base (slice_set apps i b) k
+    histories-set history base h k held told same = record {
+      each = λ j c there. get-cases (λ (x : Application R). history x.recorder ≡ Some (k x.name)) apps i j b a c at there (told ∙ ap (λ n. Some (k n)) (sym named))
+          (λ other was. held.each j c was ∙ ap Some (sym (same c.name (apart j c other was))));
+      elsewhere = elsewhere-kept base h k same held.elsewhere;
+    }
+
+    -- the state, where one changed
+    pub holds-set : (history : R → Option (List Recording)) (capacity : R → ℕ) (base : Histories) (o : Options) (readings now : Option Readings) (s t : State) → Holds history capacity base o apps readings s → HoldsOne history capacity o b t
+        → ((n : Name) → (n ≡ a.name → ⊥) → t.histories n ≡ s.histories n) → ((n : Name) → (n ≡ a.name → ⊥) → t.used n ≡ s.used n) → now ≡ Some t.readings → Holds history capacity base o (slice_set apps i b) now t
+    holds-set history capacity base o readings now s t held one same counts read = record {
+      each = λ j c there. get-cases (λ (x : Application R). HoldsOne history capacity o x t) apps i j b a c at there one
+          (λ other was. let h = held.each j c was in record {
+            told = h.told ∙ ap Some (sym (same c.name (apart j c other was)));
+            room = h.room;
+            turns = h.turns;
+            counted = h.counted ∙ sym (counts c.name (apart j c other was));
+          });
+      clock = read;
+      elsewhere = elsewhere-kept base s.histories t.histories same held.elsewhere;
+    }
+
+  -- an application that is the same
+  pub same-one : (history : R → Option (List Recording)) (capacity : R → ℕ) (o : Options) (a b : Application R) (s : State) → IsSame history capacity a b → HoldsOne history capacity o a s → HoldsOne history capacity o b s
+  same-one history capacity o a b s same held = record {
+    told = same.told ∙ held.told ∙ ap (λ n. Some (s.histories n)) (sym same.name);
+    room = same.room ∙ held.room;
+    turns = same.turns ∙ held.turns;
+    counted = same.used ∙ held.counted ∙ ap s.used (sym same.name);
+  }
+
+  pub holds-same : (apps : List (Application R)) → AreDistinct (names_in apps) → (i : ℕ) (a b : Application R) → slice_get apps i ≡ Some a → (history : R → Option (List Recording)) (capacity : R → ℕ) → IsSame history capacity a b
+      → (base : Histories) (o : Options) (readings : Option Readings) (s : State) → Holds history capacity base o apps readings s → Holds history capacity base o (slice_set apps i b) readings s
+  holds-same apps distinct i a b at history capacity same base o readings s held =
+      holds-set apps distinct i a b at same.name history capacity base o readings readings s s held (same-one history capacity o a b s same (held.each i a at)) (λ n other. refl) (λ n other. refl) held.clock
+
+  -- the state tells the histories
+  pub held-histories : (history : R → Option (List Recording)) (capacity : R → ℕ) (base : Histories) (o : Options) (apps : List (Application R)) (readings : Option Readings) (s : State) → Holds history capacity base o apps readings s → HoldHistories history base apps s.histories
+  held-histories history capacity base o apps readings s held = record { each = λ i a at. (held.each i a at).told; elsewhere = held.elsewhere }
+
+  -- the snapshots, where one application changed and kept its own
+  pub snapshots-kept : (snapshots : R → Option (List Snapshot)) (apps : List (Application R)) (i : ℕ) (a b : Application R) → slice_get apps i ≡ Some a → snapshots b.recorder ≡ snapshots a.recorder
+      → snapshots_in snapshots (slice_set apps i b) ≡ snapshots_in snapshots apps
+  snapshots-kept snapshots apps i a b at same = map-set (λ x. snapshots x.recorder) apps i b a at same
+
+  -- counts of faults
+  pub later-none : (faults : R → ℕ) (apps : List (Application R)) → Later faults apps apps
+  later-none faults apps i = omega arith
+
+  pub later-then : (faults : R → ℕ) (a b c : List (Application R)) → Later faults a b → Later faults b c → Later faults a c
+  later-then faults a b c x y i = omega (arith, x i, y i)
+
+  pub rose-then : (faults : R → ℕ) (a b c : List (Application R)) → Later faults a b → SomeRose faults b c → SomeRose faults a c
+  rose-then faults a b c x (i, y) = (i, omega (arith, x i, y))
+
+  count-at : (faults : R → ℕ) (apps : List (Application R)) (i : ℕ) (a : Application R) → slice_get apps i ≡ Some a → faults_at faults apps i ≡ faults a.recorder
+  count-at faults apps i a at = ap (count_of faults) at
+
+  pub later-set : (faults : R → ℕ) (apps : List (Application R)) (i : ℕ) (a b : Application R) → slice_get apps i ≡ Some a → faults a.recorder ≤ faults b.recorder → Later faults apps (slice_set apps i b)
+  later-set faults [] i a b at less j = absurd (cc at)
+  later-set faults (c ∷ cs) zero a b at less zero = let is : c ≡ a = cc in omega (arith, ap (λ (x : Application R). faults x.recorder) is, less)
+  later-set faults (c ∷ cs) zero a b at less (suc j) = omega arith
+  later-set faults (c ∷ cs) (suc i) a b at less zero = omega arith
+  later-set faults (c ∷ cs) (suc i) a b at less (suc j) = later-set faults cs i a b at less j
+
+  pub rose-set : (faults : R → ℕ) (apps : List (Application R)) (i : ℕ) (a b : Application R) → slice_get apps i ≡ Some a → Rose (faults a.recorder) (faults b.recorder) → SomeRose faults apps (slice_set apps i b)
+  rose-set faults apps i a b at rose = (i, omega (arith, count-at faults apps i a at, count-at faults (slice_set apps i b) i b (get-same apps i b a at), rose))

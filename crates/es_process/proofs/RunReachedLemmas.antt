@@ -1,0 +1,313 @@
+-- A run that ends well leaves each follower at its leaders' last notifications, where none was ahead.
+use Rattle.std.proofs.Common.{◌≡◌, ◌⊎◌, ◌≤◌, ◌<◌, inl, inr, ℕ, ◌+◌, nat_lt, Bool, true, false, not, ◌&&◌, List, [], ◌∷◌, ◌++◌, length, slice_get, Contains, if◌then◌else◌, Option, Some, None, refl, sym, ap, ◌∙◌, subst, append-nil, le_antisymm, arith}
+use Rattle.std.specs.Str.{bytes_eq}
+use Rattle.std.proofs.lemmas.Bool.{ltb-false}
+use Rattle.std.proofs.lemmas.Option.{slice_get_within, slice_get_cases}
+use Rattle.es_model.specs.declared.event.StoredEvent.{StoredEvent}
+use Rattle.es_model.specs.declared.event.Recording.{Recording}
+use Rattle.es_model.specs.declared.event.Cause.TheVariants.{Command, Notification}
+use Rattle.es_model.specs.History.{Histories, log, latest}
+use Rattle.es_model.specs.Lines.{Line, text, long, over}
+use Rattle.es_model.specs.Tracking.{tracked_in, id_from}
+use Rattle.es_model.specs.Values.{Name, Id}
+use Rattle.es_model.proofs.HistoryLemmas.{size-push}
+use Rattle.es_io.specs.Readings.{Readings, first_reading, later_readings}
+use Rattle.es_recorder.specs.Held.{put}
+use Rattle.es_lines.specs.declared.ends.End.{End}
+use Rattle.es_lines.specs.declared.ends.End.TheVariants.{Ok}
+use Rattle.es_lines.specs.declared.replies.Reply.{Reply}
+use Rattle.es_lines.specs.declared.replies.Reply.TheVariants.{Long, Conflict}
+use Rattle.es_process.specs.Answer.{Options, Answer, says, accepts, ends, answer, differs, Followed, adds, stops, followed}
+use Rattle.es_process.specs.Decision.{Rules, logs_of}
+use Rattle.es_process.specs.Reached.{tracked_of, last_of, IsReached, ahead}
+use Rattle.es_process.specs.Requests.{Request, command, no_request}
+use Rattle.es_process.specs.SingleThread.{Place, Turn, goes_on, turn_of, line_turn, request_turn, command_turn, next_turn, followed_turn, past_line, only_says, does_nothing, prompt, is_among, led_by, leaders_of, Step, records, writes, Run, IsRun, start, left_by}
+use Rattle.es_lines.specs.Texts.{reply_text}
+use Rattle.es_process.proofs.AmongLemmas.{contains-here, contains-none, contains-cases, contains-left, contains-last, led-contains, leaders-contains, among-contains, contains-among, put-here, put-other, put-cases, same-or-not, same-name}
+use Rattle.es_process.proofs.DecidedLemmas.{IsDecided, answer-accepts, answer-ends, followed-adds, followed-stops}
+use Rattle.es_process.proofs.FollowsLemmas.{tracked_in-push}
+use Rattle.es_process.proofs.SingleThreadLemmas.{left_by-append}
+use Rattle.es_process.proofs.TurnsLemmas.{Keeps, run-ends}
+
+passed_by : {A : Type 0} (b : Bool) (x : A) (o : Option A) → (if b then Some x else o) ≡ None → (b ≡ false) × (o ≡ None)
+passed_by true x o is = absurd (cc is)
+passed_by false x o is = (refl, is)
+
+-- where nothing is ahead, no follower tracks past its leader's last notification
+none_ahead : (pairs : List (Name × Name)) (h : Histories) → ahead pairs h ≡ None → (p : Name × Name) → Contains pairs p → tracked_of h p ≤ last_of h p
+none_ahead [] h is p so = contains-none p so
+none_ahead (q ∷ pairs) h is p so =
+    let passed = passed_by (nat_lt (last_of h q) (tracked_of h q)) (record { leader = q.0; follower = q.1; tracked = tracked_of h q; last = last_of h q }) (ahead pairs h) is in
+    elim (contains-cases q pairs p so) [
+      | inl same ↦ subst (λ r. tracked_of h r ≤ last_of h r) same (ltb-false (last_of h q) (tracked_of h q) passed.0)
+      | inr behind ↦ none_ahead pairs h passed.1 p behind
+    ]
+
+-- prompts stay, and one is there for a leader whose log has grown
+prompt_keeps : (pairs : List (Name × Name)) (prompted : List Name) (app : Name) (es : List StoredEvent) (n : Name) → Contains prompted n → Contains (prompt pairs prompted app es) n
+prompt_keeps pairs prompted app [] n so = so
+prompt_keeps pairs prompted app (e ∷ es) n so = elim (is_among app (leaders_of pairs) && not (is_among app prompted)) as (λ b. Contains (if b then prompted ++ app ∷ [] else prompted) n) [
+  | true ↦ contains-left prompted (app ∷ []) n so
+  | false ↦ so
+]
+
+prompt_adds : (pairs : List (Name × Name)) (prompted : List Name) (app : Name) (e : StoredEvent) (es : List StoredEvent) → Contains (leaders_of pairs) app → Contains (prompt pairs prompted app (e ∷ es)) app
+prompt_adds pairs prompted app e es leads = here (is_among app (leaders_of pairs)) (is_among app prompted) (contains-among app (leaders_of pairs) leads) (among-contains app prompted)
+  where
+    here : (a b : Bool) → a ≡ true → (b ≡ true → Contains prompted app) → Contains (if a && not b then prompted ++ app ∷ [] else prompted) app
+    here true true is there = there refl
+    here true false is there = contains-last prompted app
+    here false b is there = absurd (cc is)
+
+-- a log has grown, or is as long as before
+grown_or_not : (pairs : List (Name × Name)) (prompted : List Name) (app : Name) (h : List Recording) (r : Recording) → Contains (leaders_of pairs) app → (length (log (h ++ r ∷ [])) ≡ length (log h)) ⊎ Contains (prompt pairs prompted app r.events) app
+grown_or_not pairs prompted app h r leads = here r.events refl
+  where
+    here : (es : List StoredEvent) → r.events ≡ es → (length (log (h ++ r ∷ [])) ≡ length (log h)) ⊎ Contains (prompt pairs prompted app r.events) app
+    here [] is = inl (omega (arith, size-push h r, ap length is))
+    here (e ∷ es) is = inr (subst (λ s. Contains (prompt pairs prompted app s) app) (sym is) (prompt_adds pairs prompted app e es leads))
+
+-- one recording more of an application: what each pair tracks, and how far its leader has come
+module _ (h : Histories) (app : Name) (r : Recording) where
+  abbrev more : Histories
+  more = put h app (h app ++ r ∷ [])
+
+  tracked_more : (q : Name × Name) (top : ℕ) → tracked_of h q ≤ top → (q.1 ≡ app → id_from r.cause q.0 ≤ top) → tracked_of more q ≤ top
+  tracked_more q top le from =
+      put-cases (λ n x. tracked_in (h n) q.0 ≤ top → (n ≡ app → id_from r.cause q.0 ≤ top) → tracked_in x q.0 ≤ top) h app (h app ++ r ∷ []) q.1
+      (λ less may. omega (arith, tracked_in-push (h app) r q.0, less, may refl))
+      (λ differ less may. less) le from
+
+  tracked_same : (q : Name × Name) → (q.1 ≡ app → id_from r.cause q.0 ≤ tracked_of h q) → tracked_of more q ≡ tracked_of h q
+  tracked_same q from =
+      put-cases (λ n x. (n ≡ app → id_from r.cause q.0 ≤ tracked_in (h n) q.0) → tracked_in x q.0 ≡ tracked_in (h n) q.0) h app (h app ++ r ∷ []) q.1
+      (λ may. omega (arith, tracked_in-push (h app) r q.0, may refl))
+      (λ differ may. refl) from
+
+  last_more : (q : Name × Name) → last_of h q ≤ last_of more q
+  last_more q =
+      put-cases (λ n x. length (log (h n)) ≤ length (log x)) h app (h app ++ r ∷ []) q.0
+      (omega (arith, size-push (h app) r))
+      (λ differ. omega arith)
+
+  last_same : (q : Name × Name) → (q.0 ≡ app → ⊥) → last_of more q ≡ last_of h q
+  last_same q differ = ap (λ x. length (log x)) (put-other h app (h app ++ r ∷ []) q.0 differ)
+
+module _ (rules : Rules) (options : Options) (openings : Histories) where
+  -- each follower tracks no more than there is, and has reached its leader's last notification, or is still to be tried
+  record Chases (done : List Step) (at : Place) : Type 0 where
+    left : left_by done openings ≡ at.histories
+    behind : (p : Name × Name) → Contains rules.pairs p → tracked_of at.histories p ≤ last_of at.histories p
+    caught : (p : Name × Name) → Contains rules.pairs p → (tracked_of at.histories p ≡ last_of at.histories p) ⊎ (Contains at.pending p ⊎ Contains at.prompted p.0)
+
+  abbrev Nothing : List Step → Type 0
+  Nothing done = Unit {0}
+
+  abbrev EndsReached : List Step → End → Type 0
+  EndsReached done end = (added : List (Name × ℕ)) (count : ℕ) → end ≡ Ok added count → IsReached rules.pairs (left_by done openings)
+
+  abbrev KeepsChase : List Step → Turn → Type 0
+  KeepsChase = Keeps rules options openings Chases Nothing EndsReached
+
+  -- a turn that adds nothing
+  said_chases : (done : List Step) (at : Place) (so : Chases done at) (reply : Reply) (rest : List Line) (rs : Readings) → KeepsChase done (goes_on (only_says reply) (record (past_line at rest) { readings = rs }))
+  said_chases done at so reply rest rs = (
+    λ front rest is. tt,
+    record {
+      left = left_by-append done (writes (reply_text reply) ∷ []) openings ∙ so.left;
+      behind = so.behind;
+      caught = so.caught;
+    },
+  )
+
+  idles_chases : (done : List Step) (at : Place) (so : Chases done at) (prompted : List Name) (pending : List (Name × Name))
+      → ((p : Name × Name) → Contains rules.pairs p → (tracked_of at.histories p ≡ last_of at.histories p) ⊎ (Contains pending p ⊎ Contains prompted p.0)) → KeepsChase done (goes_on does_nothing (record at { prompted = prompted; pending = pending }))
+  idles_chases done at so prompted pending caught = (
+    λ front rest is. tt,
+    record {
+      left = left_by-append done [] openings ∙ so.left;
+      behind = so.behind;
+      caught = caught;
+    },
+  )
+
+  -- an accepted command, in a place where nothing is still to be tried
+  module _ (done : List Step) (at : Place) (so : Chases done at) (pending_none : at.pending ≡ []) (prompted_none : at.prompted ≡ []) where
+    all_caught : (p : Name × Name) → Contains rules.pairs p → tracked_of at.histories p ≡ last_of at.histories p
+    all_caught p declared = elim (so.caught p declared) [
+      | inl same ↦ same
+      | inr (inl here) ↦ contains-none p (subst (λ ps. Contains ps p) pending_none here)
+      | inr (inr here) ↦ contains-none p.0 (subst (λ ns. Contains ns p.0) prompted_none here)
+    ]
+
+    accepted_chases : (app : Name) (asked : List ℕ) (r : Recording) (reply : Reply) (rest : List Line) → r.cause ≡ Command asked
+        → KeepsChase done (goes_on (record { added = (app, r) ∷ []; reply = Some reply }) (record (past_line at rest) { histories = put at.histories app (at.histories app ++ r ∷ []); readings = later_readings at.readings; prompted = app ∷ [] }))
+    accepted_chases app asked r reply rest caused = (
+      λ front rest is. tt,
+      record {
+        left = left_by-append done (records app r ∷ writes (reply_text reply) ∷ []) openings ∙ ap (left_by (records app r ∷ writes (reply_text reply) ∷ [])) so.left;
+        behind = λ p declared. omega (arith, same p, so.behind p declared, last_more at.histories app r p);
+        caught = λ p declared. elim (same-or-not p.0 app) [
+          | inl leads ↦ inr (inr (subst (Contains (app ∷ [])) (sym leads) (contains-here app [])))
+          | inr differ ↦ inl (same p ∙ all_caught p declared ∙ sym (last_same at.histories app r p differ))
+        ];
+      },
+    )
+      where
+        same : (p : Name × Name) → tracked_of (put at.histories app (at.histories app ++ r ∷ [])) p ≡ tracked_of at.histories p
+        same p = tracked_same at.histories app r p (λ is. omega (arith, ap (λ c. id_from c p.0) caused))
+
+    asked_chases : (app : Name) (asked : List ℕ) (id : Id) (expect : Option ℕ) (rest : List Line) (a : Answer) → answer rules options.capacity app (at.histories app) (logs_of at.histories) asked id expect (first_reading at.readings) ≡ a → KeepsChase done (command_turn at rest app a)
+    asked_chases app asked id expect rest (says reply) is = said_chases done at so reply rest (later_readings at.readings)
+    asked_chases app asked id expect rest (accepts r reply) is =
+        let decided : IsDecided (rules.decide app (at.histories app) (logs_of at.histories) (Command asked) (first_reading at.readings)) (Command asked) (first_reading at.readings) r =
+        answer-accepts rules app (at.histories app) (logs_of at.histories) (first_reading at.readings) options.capacity asked id expect r reply is in
+        accepted_chases app asked r reply rest (sym (ap (λ (s : Recording). s.cause) decided.is))
+    asked_chases app asked id expect rest (ends end) is =
+        λ added count ok. answer-ends rules app (at.histories app) (logs_of at.histories) (first_reading at.readings) options.capacity asked id expect added count (is ∙ ap ends ok)
+
+    request_chases : (rest : List Line) (q : Request) → KeepsChase done (request_turn rules options at rest q)
+    request_chases rest (no_request told) = said_chases done at so told rest at.readings
+    request_chases rest (command app asked id expect) =
+        let a : Answer = answer rules options.capacity app (at.histories app) (logs_of at.histories) asked id expect (first_reading at.readings) in
+        elim (differs (at.histories app) id expect) as (λ b. KeepsChase done (if b then goes_on (only_says (Conflict (latest (log (at.histories app)) id))) (past_line at rest) else command_turn at rest app a)) [
+          | true ↦ said_chases done at so (Conflict (latest (log (at.histories app)) id)) rest at.readings
+          | false ↦ asked_chases app asked id expect rest a refl
+        ]
+
+    line_chases : (ls : List Line) → KeepsChase done (line_turn rules options openings at ls)
+    line_chases [] = λ added count ok p declared. subst (λ h. tracked_of h p ≡ last_of h p) (sym so.left) (all_caught p declared)
+    line_chases (text t ∷ rest) = request_chases rest (rules.request t)
+    line_chases (long ∷ rest) = said_chases done at so Long rest at.readings
+    line_chases (over ∷ rest) = λ added count ok. absurd (cc ok)
+
+  -- a follower records the next notification of its leader
+  module _ (done : List Step) (at : Place) (so : Chases done at) (leader app : Name) (pending : Contains at.pending (leader, app)) (there : tracked_in (at.histories app) leader < length (log (at.histories leader))) where
+    abbrev next_id : ℕ
+    next_id = tracked_in (at.histories app) leader + 1
+
+    module _ (r : Recording) (caused : Notification leader next_id ≡ r.cause) where
+      -- of another leader nothing is tracked that wasn't before
+      other_leader : (n : Name) → (n ≡ leader → ⊥) → id_from r.cause n ≡ 0
+      other_leader n differ = ap (λ c. id_from c n) (sym caused) ∙ not_from (bytes_eq leader n) (λ is. differ (sym (same-name leader n is)))
+        where
+          not_from : (b : Bool) → (b ≡ true → ⊥) → (if b then next_id else 0) ≡ 0
+          not_from true differ = absurd (differ refl)
+          not_from false differ = refl
+
+      still_behind : (p : Name × Name) → Contains rules.pairs p → tracked_of (put at.histories app (at.histories app ++ r ∷ [])) p ≤ last_of (put at.histories app (at.histories app ++ r ∷ [])) p
+      still_behind p declared =
+          let less : tracked_of (put at.histories app (at.histories app ++ r ∷ [])) p ≤ last_of at.histories p =
+          tracked_more at.histories app r p (last_of at.histories p) (so.behind p declared) (λ same. within (same-or-not p.0 leader)) in
+          omega (arith, less, last_more at.histories app r p)
+        where
+          within : (p.0 ≡ leader) ⊎ (p.0 ≡ leader → ⊥) → id_from r.cause p.0 ≤ last_of at.histories p
+          within (inl is) = subst (λ n. id_from r.cause n ≤ length (log (at.histories n))) (sym is) (subst (λ c. id_from c leader ≤ length (log (at.histories leader))) caused (from_it (bytes_eq leader leader)))
+            where
+              from_it : (b : Bool) → (if b then next_id else 0) ≤ length (log (at.histories leader))
+              from_it true = omega (arith, there)
+              from_it false = omega arith
+          within (inr differ) = omega (arith, other_leader p.0 differ)
+
+      abbrev grown : Histories
+      grown = put at.histories app (at.histories app ++ r ∷ [])
+
+      abbrev IsCaught : Name × Name → Type 0
+      IsCaught p = (tracked_of grown p ≡ last_of grown p) ⊎ (Contains at.pending p ⊎ Contains (prompt rules.pairs at.prompted app r.events) p.0)
+
+      -- a pair that had reached its leader, which may be this follower
+      reached_caught : (p : Name × Name) → Contains rules.pairs p → tracked_of grown p ≡ last_of at.histories p → IsCaught p
+      reached_caught p declared same = elim (same-or-not p.0 app) [
+        | inl leads ↦ elim (grown_or_not rules.pairs at.prompted app (at.histories app) r (subst (Contains (leaders_of rules.pairs)) leads (leaders-contains rules.pairs p declared))) [
+          | inl alike ↦ inl (same ∙ sym (ap (λ n. length (log (grown n))) leads ∙ ap (λ x. length (log x)) (put-here at.histories app (at.histories app ++ r ∷ [])) ∙ alike ∙ ap (λ n. length (log (at.histories n))) (sym leads)))
+          | inr prompted ↦ inr (inr (subst (Contains (prompt rules.pairs at.prompted app r.events)) (sym leads) prompted))
+        ]
+        | inr differ ↦ inl (same ∙ sym (last_same at.histories app r p differ))
+      ]
+
+      other_caught : (p : Name × Name) → Contains rules.pairs p → (p.1 ≡ app → p.0 ≡ leader → ⊥) → IsCaught p
+      other_caught p declared differ =
+          let same : tracked_of grown p ≡ tracked_of at.histories p = tracked_same at.histories app r p (λ is. omega (arith, other_leader p.0 (differ is))) in
+          elim (so.caught p declared) [
+            | inl reached ↦ reached_caught p declared (same ∙ reached)
+            | inr (inl here) ↦ inr (inl here)
+            | inr (inr here) ↦ inr (inr (prompt_keeps rules.pairs at.prompted app r.events p.0 here))
+          ]
+
+      still_caught : (p : Name × Name) → Contains rules.pairs p → IsCaught p
+      still_caught p declared = elim (same-or-not p.0 leader) [
+        | inr differ ↦ other_caught p declared (λ app_is. differ)
+        | inl leads ↦ elim (same-or-not p.1 app) [
+          | inr differ ↦ other_caught p declared (λ app_is. absurd (differ app_is))
+          | inl follows ↦ inr (inl (subst (Contains at.pending) (λ i. (sym leads i, sym follows i)) pending))
+        ]
+      ]
+
+      followed_stand : Chases (done ++ records app r ∷ []) (record at { histories = grown; readings = later_readings at.readings; used = put at.used app (at.used app + 1); prompted = prompt rules.pairs at.prompted app r.events })
+      followed_stand = record {
+        left = left_by-append done (records app r ∷ []) openings ∙ ap (left_by (records app r ∷ [])) so.left;
+        behind = still_behind;
+        caught = still_caught;
+      }
+
+    followed_chases : (f : Followed) → followed rules options app (at.histories app) (at.used app) (logs_of at.histories) leader next_id (first_reading at.readings) ≡ f → KeepsChase done (followed_turn rules at app f)
+    followed_chases (stops end) is =
+        λ added count ok. followed-stops rules app (at.histories app) (logs_of at.histories) (first_reading at.readings) options (at.used app) leader next_id added count (is ∙ ap stops ok)
+    followed_chases (adds r) is =
+        let decided : IsDecided (rules.decide app (at.histories app) (logs_of at.histories) (Notification leader next_id) (first_reading at.readings)) (Notification leader next_id) (first_reading at.readings) r =
+        followed-adds rules app (at.histories app) (logs_of at.histories) (first_reading at.readings) options (at.used app) leader next_id r is in
+        (λ front rest none. tt, followed_stand r (ap (λ (s : Recording). s.cause) decided.is))
+
+  -- a pair whose follower has no notification to come
+  dropped_caught : (done : List Step) (at : Place) (so : Chases done at) (leader app : Name) (rest : List (Name × Name)) → at.pending ≡ (leader, app) ∷ rest → length (log (at.histories leader)) ≤ tracked_in (at.histories app) leader
+      → (p : Name × Name) → Contains rules.pairs p → (tracked_of at.histories p ≡ last_of at.histories p) ⊎ (Contains rest p ⊎ Contains at.prompted p.0)
+  dropped_caught done at so leader app rest is past p declared = elim (so.caught p declared) [
+    | inl reached ↦ inl reached
+    | inr (inr here) ↦ inr (inr here)
+    | inr (inl here) ↦ elim (contains-cases (leader, app) rest p (subst (λ ps. Contains ps p) is here)) [
+      | inl same ↦ inl (le_antisymm (so.behind p declared) (subst (λ q. last_of at.histories q ≤ tracked_of at.histories q) same past))
+      | inr behind ↦ inr (inl behind)
+    ]
+  ]
+
+  next_chases : (done : List Step) (at : Place) (so : Chases done at) (leader app : Name) (rest : List (Name × Name)) → at.pending ≡ (leader, app) ∷ rest → (o : Option StoredEvent) → slice_get (log (at.histories leader)) (tracked_in (at.histories app) leader) ≡ o
+      → KeepsChase done (next_turn rules options at leader app rest o)
+  next_chases done at so leader app rest is None none =
+      let past : length (log (at.histories leader)) ≤ tracked_in (at.histories app) leader = elim (slice_get_cases (log (at.histories leader)) (tracked_in (at.histories app) leader)).1 [
+        | inl within ↦ let clash : None ≡ Some within.0 = sym none ∙ within.2 in absurd (cc clash)
+        | inr after ↦ after.0
+      ] in
+      idles_chases done at so at.prompted rest (dropped_caught done at so leader app rest is past)
+  next_chases done at so leader app rest is (Some e) some =
+      followed_chases done at so leader app (subst (λ ps. Contains ps (leader, app)) (sym is) (contains-here (leader, app) rest)) (slice_get_within (log (at.histories leader)) (tracked_in (at.histories app) leader) e some)
+      (followed rules options app (at.histories app) (at.used app) (logs_of at.histories) leader (tracked_in (at.histories app) leader + 1) (first_reading at.readings)) refl
+
+  -- the pairs of a leader that is taken are still to be tried
+  taken_caught : (done : List Step) (at : Place) (so : Chases done at) (leader : Name) (prompted : List Name) → at.pending ≡ [] → at.prompted ≡ leader ∷ prompted
+      → (p : Name × Name) → Contains rules.pairs p → (tracked_of at.histories p ≡ last_of at.histories p) ⊎ (Contains (led_by rules.pairs leader) p ⊎ Contains prompted p.0)
+  taken_caught done at so leader prompted none is p declared = elim (so.caught p declared) [
+    | inl reached ↦ inl reached
+    | inr (inl here) ↦ contains-none p (subst (λ ps. Contains ps p) none here)
+    | inr (inr here) ↦ elim (contains-cases leader prompted p.0 (subst (λ ns. Contains ns p.0) is here)) [
+      | inl same ↦ inr (inl (subst (λ n. Contains (led_by rules.pairs n) p) (sym same) (led-contains rules.pairs p declared)))
+      | inr behind ↦ inr (inr behind)
+    ]
+  ]
+
+  turn_chases : (done : List Step) (at : Place) (so : Chases done at) (pending : List (Name × Name)) (prompted : List Name) → at.pending ≡ pending → at.prompted ≡ prompted → KeepsChase done (turn_of rules options openings at pending prompted)
+  turn_chases done at so (p ∷ rest) prompted is prompts = next_chases done at so p.0 p.1 rest is (slice_get (log (at.histories p.0)) (tracked_in (at.histories p.1) p.0)) refl
+  turn_chases done at so [] (leader ∷ prompted) is prompts = idles_chases done at so prompted (led_by rules.pairs leader) (taken_caught done at so leader prompted is prompts)
+  turn_chases done at so [] [] is prompts = line_chases done at so is prompts at.lines
+
+  whole_reached : (readings : Readings) (lines : List Line) (d : Run) → IsRun rules options openings (start rules openings readings lines) d → ahead rules.pairs openings ≡ None → EndsReached d.steps d.end
+  whole_reached readings lines d run none =
+      run-ends rules options openings Chases Nothing EndsReached (λ done at so. tt) (λ done at so. turn_chases done at so at.pending at.prompted refl refl) (start rules openings readings lines) d
+      (record { left = refl; behind = none_ahead rules.pairs openings none; caught = λ p declared. inr (inr (leaders-contains rules.pairs p declared)) })
+      run
+
+  -- all steps of a run that ends well, from openings of which none is ahead, leave each follower at its leaders' last notifications
+  pub run-reached : (readings : Readings) (lines : List Line) (d : Run) → IsRun rules options openings (start rules openings readings lines) d → ahead rules.pairs openings ≡ None
+      → (done rest : List Step) → d.steps ≡ done ++ rest → rest ≡ [] → (added : List (Name × ℕ)) (count : ℕ) → d.end ≡ Ok added count → IsReached rules.pairs (left_by done openings)
+  run-reached readings lines d run none done rest parts whole added count ok =
+      let same : d.steps ≡ done = parts ∙ ap (λ (t : List Step). done ++ t) whole ∙ append-nil done in
+      subst (λ t. IsReached rules.pairs (left_by t openings)) same (whole_reached readings lines d run none added count ok)

@@ -1,0 +1,15 @@
+pub mod Answer
+pub mod Consistent
+pub mod Decision
+pub mod Drains
+pub mod Faults
+pub mod Follows
+pub mod Lawful
+pub mod Leaves
+pub mod Reached
+pub mod Requests
+pub mod Session
+pub mod SingleThread
+pub mod Standing
+pub mod SystemRules
+pub mod Terms

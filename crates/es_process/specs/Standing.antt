@@ -1,0 +1,172 @@
+-- Where the objects of a run stand, and what a part of the run leaves.
+use Rattle.std.specs.Prelude.{◌≡◌, ◌≤◌, ◌<◌, ◌^◌, ◌+◌, ◌⊎◌, ℕ, false, List, [], ◌∷◌, ◌++◌, map, slice_get, Option, Some, None}
+use Rattle.std.specs.Io.KnownBytes.{Appends}
+use Rattle.es_model.specs.declared.event.Notification.{Notification}
+use Rattle.es_model.specs.declared.event.Recording.{Recording}
+use Rattle.es_model.specs.declared.event.StoredEvent.{StoredEvent}
+use Rattle.es_model.specs.declared.snapshot.Snapshot.{Snapshot}
+use Rattle.es_model.specs.Causes.{Rose}
+use Rattle.es_model.specs.History.{Histories}
+use Rattle.es_model.specs.Lines.{Line}
+use Rattle.es_model.specs.Values.{Name}
+use Rattle.es_io.specs.Readings.{Readings}
+use Rattle.es_lines.specs.declared.ends.End.{End}
+use Rattle.es_process.specs.declared.application.Application.{Application}
+use Rattle.es_process.specs.declared.faults.RunFault.{RunFault}
+use Rattle.es_process.specs.declared.faults.RunFault.TheVariants as fault
+use Rattle.es_process.specs.Answer.{Options}
+use Rattle.es_process.specs.Faults.{ByFault}
+use Rattle.es_process.specs.SingleThread.{is_among, Place, Step, records, writes, Run, IsRun, Goes, left_by, written_by, as_line}
+use Rattle.es_process.specs.Terms.{Terms}
+
+-- what the applications and the clock hold: the histories, the readings to come, and how many notifications each application has recorded in this run
+pub record State : Type 0 where
+  pub histories : Histories
+  pub readings : Readings
+  pub used : Name → ℕ
+
+-- an application tells what the state has of it, and has the limits of the run
+pub record HoldsOne {R : Type 0} (history : R → Option (List Recording)) (capacity : R → ℕ) (options : Options) (a : Application R) (s : State) : Type 0 where
+  pub told : history a.recorder ≡ Some (s.histories a.name)
+  pub room : capacity a.recorder ≡ options.capacity
+  pub turns : a.turns ≡ options.turns
+  pub counted : a.used ≡ s.used a.name
+
+abbrev pub names_in : {R : Type 0} → List (Application R) → List Name
+names_in apps = map (λ a. a.name) apps
+
+-- the snapshots of each application, where they are told
+abbrev pub snapshots_in : {R : Type 0} → (R → Option (List Snapshot)) → List (Application R) → List (Option (List Snapshot))
+snapshots_in snapshots apps = map (λ a. snapshots a.recorder) apps
+
+-- histories are these but at the applications
+abbrev pub AreElsewhere : {R : Type 0} → Histories → List (Application R) → Histories → Type 0
+AreElsewhere base apps h = (n : Name) → is_among n (names_in apps) ≡ false → h n ≡ base n
+
+-- the applications and the clock tell this state, and elsewhere the histories are as at the opening
+pub record Holds {R : Type 0} (history : R → Option (List Recording)) (capacity : R → ℕ) (base : Histories) (options : Options) (apps : List (Application R)) (readings : Option Readings) (s : State) : Type 0 where
+  pub each : (i : ℕ) (a : Application R) → slice_get apps i ≡ Some a → HoldsOne history capacity options a s
+  pub clock : readings ≡ Some s.readings
+  pub elsewhere : AreElsewhere base apps s.histories
+
+-- the applications tell these histories, and elsewhere they are as at the opening
+pub record HoldHistories {R : Type 0} (history : R → Option (List Recording)) (base : Histories) (apps : List (Application R)) (h : Histories) : Type 0 where
+  pub each : (i : ℕ) (a : Application R) → slice_get apps i ≡ Some a → history a.recorder ≡ Some (h a.name)
+  pub elsewhere : AreElsewhere base apps h
+
+-- the names of the applications are different
+abbrev pub AreDistinct : List Name → Type 0
+AreDistinct names = (i j : ℕ) (n : Name) → slice_get names i ≡ Some n → slice_get names j ≡ Some n → i ≡ j
+
+-- the entry after one that is tracked, with its id, or that there is none
+abbrev pub IsNextAfter : List StoredEvent → ℕ → Option Notification → Type 0
+IsNextAfter entries tracked None = slice_get entries tracked ≡ None
+IsNextAfter entries tracked (Some n) = (slice_get entries tracked ≡ Some n.event) × (n.id ≡ tracked + 1)
+
+-- the numbers of a notification that a recorder gives
+pub record IsSmall (n : Notification) : Type 0 where
+  pub id : n.id < 2 ^ 62
+  pub version : n.event.originator_version < 2 ^ 62
+
+-- the faults of reading
+abbrev pub MayFailToRead : RunFault → Type 0
+MayFailToRead f = (f ≡ fault.Recorder) ⊎ (f ≡ fault.NoMemory)
+
+-- what an application holds besides its count of faults is as it was
+pub record IsSame {R : Type 0} (history : R → Option (List Recording)) (capacity : R → ℕ) (old new : Application R) : Type 0 where
+  pub name : new.name ≡ old.name
+  pub told : history new.recorder ≡ history old.recorder
+  pub room : capacity new.recorder ≡ capacity old.recorder
+  pub turns : new.turns ≡ old.turns
+  pub used : new.used ≡ old.used
+
+-- how often the recorder of the application at a place has failed
+abbrev pub count_of : {R : Type 0} → (R → ℕ) → Option (Application R) → ℕ
+count_of faults None = 0
+count_of faults (Some a) = faults a.recorder
+
+abbrev pub faults_at : {R : Type 0} → (R → ℕ) → List (Application R) → ℕ → ℕ
+faults_at faults apps i = count_of faults (slice_get apps i)
+
+-- no count of faults has fallen
+abbrev pub Later : {R : Type 0} → (R → ℕ) → List (Application R) → List (Application R) → Type 0
+Later faults old new = (i : ℕ) → faults_at faults old i ≤ faults_at faults new i
+
+-- one of them has risen
+abbrev pub SomeRose : {R : Type 0} → (R → ℕ) → List (Application R) → List (Application R) → Type 0
+SomeRose faults old new = (i : ℕ) × Rose (faults_at faults old i) (faults_at faults new i)
+
+-- the place of a run with this state
+abbrev pub stand : State → List Name → List (Name × Name) → List Line → ℕ → Place
+stand s prompted pending lines answered = record {
+  histories = s.histories;
+  readings = s.readings;
+  used = s.used;
+  prompted = prompted;
+  pending = pending;
+  lines = lines;
+  answered = answered;
+}
+
+-- what a part of a run doesn't look at: the openings, the lines after its own, and how many lines were answered before
+pub record Setting : Type 0 where
+  pub openings : Histories
+  pub lines : List Line
+  pub answered : ℕ
+
+-- a place of a run in each setting
+abbrev pub Places : Type 0
+Places = Setting → Place
+
+abbrev pub standing : State → List Name → List (Name × Name) → Places
+standing s prompted pending = λ σ. stand s prompted pending σ.lines σ.answered
+
+-- these bytes are a front of the next text, or none where no text is next
+abbrev pub IsFrontOf : List ℕ → List Step → Type 0
+IsFrontOf front [] = front ≡ []
+IsFrontOf front (records app r ∷ rest) = front ≡ []
+IsFrontOf front (writes t ∷ rest) = (more : List ℕ) × (as_line t ≡ front ++ more)
+
+-- some steps are the first of all, and these bytes a front of the next one's text
+pub record AreFirst (done : List Step) (front : List ℕ) (whole : List Step) : Type 0 where
+  pub rest : List Step
+  pub parts : whole ≡ done ++ rest
+  pub next : IsFrontOf front rest
+
+-- where there is a run from a place, these are the first of its steps
+pub record Cut (t : Terms) (openings : Histories) (at : Place) (done : List Step) (front : List ℕ) : Type 0 where
+  pub of_run : (run : Run) → IsRun t.rules t.options openings at run → AreFirst done front run.steps
+
+-- from the first place the run came to the second, in each setting, by steps that wrote what was written; the objects hold the state there
+pub record Came (t : Terms) (at : Places) (holds : State → Type 0) (before now : Option (List ℕ)) (next : State → Places) : Type 0 where
+  pub state : State
+  pub steps : List Step
+  pub held : holds state
+  pub goes : (σ : Setting) → Goes t.rules t.options σ.openings (at σ) (next state σ) steps
+  pub written : Appends before now (written_by steps)
+
+-- from this place the run came to its end: all its steps were made, and the histories are what they leave
+pub record Ended (t : Terms) (at : Places) (left : Histories → Type 0) (before now : Option (List ℕ)) (end : End) : Type 0 where
+  pub steps : List Step
+  pub histories : Histories
+  pub held : left histories
+  pub run : (σ : Setting) → IsRun t.rules t.options σ.openings (at σ) (record { steps = steps; end = end })
+  pub made : (σ : Setting) → left_by steps (at σ).histories ≡ histories
+  pub written : Appends before now (written_by steps)
+
+-- from this place the run was cut short: its first steps were made, and this front of the next text was written besides
+pub record CutShort (t : Terms) (at : Places) (left : Histories → Type 0) (before now : Option (List ℕ)) (front : List ℕ) : Type 0 where
+  pub done : List Step
+  pub histories : Histories
+  pub held : left histories
+  pub cut : (σ : Setting) → Cut t σ.openings (at σ) done front
+  pub made : (σ : Setting) → left_by done (at σ).histories ≡ histories
+  pub written : Appends before now (written_by done ++ front)
+
+-- the same with some front
+abbrev pub CutInText : Terms → Places → (Histories → Type 0) → Option (List ℕ) → Option (List ℕ) → Type 0
+CutInText t at left before now = (front : List ℕ) × CutShort t at left before now front
+
+-- what a fault of a part of a run leaves; no part of a text was written
+abbrev pub Faulted : Terms → Places → RunFault → (Histories → Type 0) → Option (List ℕ) → Option (List ℕ) → Type 0
+Faulted t at f left before now = ByFault f (λ end. Ended t at left before now end) (CutShort t at left before now []) (CutShort t at left before now [])

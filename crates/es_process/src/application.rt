@@ -1,0 +1,545 @@
+//! One application over its recorder: what it makes of a command, and of a leader's notification.
+ghost use Rattle.std.specs.Prelude.{◌≡◌, ◌⊎◌, ◌≤◌, ◌<◌, ◌^◌, ◌-◌, ◌+◌, ◌∷◌, [], List, Some, None, All, IsTrue, is_some, OnOk, OnErr, IfOk, IfErr, IsErrOf, IfSome, length, slice_get};
+ghost use Rattle.es_model.specs.declared.event.Recording.{Recording};
+ghost use Rattle.es_model.specs.Causes.{Rose};
+ghost use Rattle.es_model.specs.Declaration.{app_named};
+ghost use Rattle.es_model.specs.History.{log, latest};
+ghost use Rattle.es_model.specs.Tracking.{tracked_in};
+ghost use Rattle.es_model.specs.Values.{Id};
+ghost use Rattle.es_io.specs.Readings.{Readings, first_reading, later_readings};
+ghost use Rattle.es_expr.specs.Checked.{IsCheckedSystem};
+ghost use Rattle.es_domain.specs.Decision.{IsNotice, notice};
+ghost use Rattle.es_recorder.specs.Insert.{IsInsertable, first_conflict, too_many};
+ghost use Rattle.es_repo.specs.Verdicts.{command_verdict, policy_verdict, FollowsIn, IsSmallVerdict};
+ghost use Rattle.es_lines.specs.CommandText.{command_text};
+ghost use Rattle.es_lines.specs.Requests.{IsDeclared};
+ghost use Rattle.es_repo.specs.declared.verdict.Verdict.TheVariants as verdicts;
+ghost use Rattle.es_process.specs.Answer.{recording_of as recording_at, options, differs, followed, followed_of, accept_unless, answer_of};
+ghost use Rattle.es_process.specs.Decision.{Logs};
+ghost use Rattle.es_process.specs.SystemRules.{rules_of, decision_of};
+ghost use Rattle.es_process.specs.Leaves.{Fits, Adds, MayFailToAdd, Leaves, command_answer, readings_after, Processes, Takes, Records, Decides, MayRefuse, IsRecorded, Converts};
+ghost use Rattle.es_process.specs.Standing.{IsSame, IsSmall, IsNextAfter, MayFailToRead};
+
+use crate::faults::RunFault;
+use es_domain::Command;
+use es_io::Clock;
+use es_lines::{Reply, command_text};
+use es_mapper::{MapFault, to_domain};
+use es_model::{
+    Cause, DomainEvent, Duplicate, Moment, NoMemory, Notification, Recording, StoredEvent,
+    StoredEvents, System, Text,
+};
+use es_recorder::{InsertFault, Inserted, ProcessRecorder};
+use es_repo::{Verdict, judge_command, judge_policy};
+use std::alloc::Global;
+use uuid::Uuid;
+
+/// An application that was opened.
+#[derive(Drop)]
+pub struct Application<R> {
+    pub name: Text,
+    pub recorder: R,
+    /// How many notifications it may record.
+    pub turns: u64,
+    /// How many it has recorded since it was opened.
+    pub used: u64,
+}
+
+/// What was made of a notification.
+#[derive(Clone, Copy, Debug, PartialEq, Eq)]
+pub enum Processed {
+    /// It was recorded, with the notification ids of the first and last event that follow from it.
+    Recorded { first: u64, last: u64 },
+    /// It is tracked already.
+    Skipped { tracked: u64 },
+    /// It isn't the next one.
+    Gap { tracked: u64 },
+}
+
+// The fault of a recorder that is full.
+fn full(app: &Text, last: u64, capacity: u64) -> RunFault
+    ensures { (result ≡ RunFault.Full app.now last capacity) ⊎ (result ≡ RunFault.NoMemory) }
+{
+    match app.copy() {
+        Ok(app) => RunFault::Full {
+            app,
+            last,
+            capacity,
+        },
+        Err(NoMemory) => RunFault::NoMemory,
+    }
+}
+
+// That an entry of an application's log has no meaning.
+fn unreadable(app: &Text, id: u64) -> RunFault
+    ensures { (result ≡ RunFault.Unreadable app.now id) ⊎ (result ≡ RunFault.NoMemory) }
+{
+    match app.copy() {
+        Ok(app) => RunFault::Unreadable { app, id },
+        Err(NoMemory) => RunFault::NoMemory,
+    }
+}
+
+// How many of some events are an originator's.
+fn count_own(events: &[StoredEvent], id: Uuid) -> u64
+    ensures count { result ≡ latest events.now id }
+    ensures few { result ≤ length events.now }
+{
+    events
+        .iter()
+        .filter(|event| event.originator_id == id)
+        .count() as u64
+}
+
+// Whether a command expects another version than that of its aggregate.
+fn expects_other(expect: Option<u64>, version: u64) -> bool
+    ensures { (h : List Recording) (id : Id) → version ≡ latest (log h) id → result ≡ differs h id expect }
+{
+    match expect {
+        Some(wanted) => wanted != version,
+        None => false,
+    }
+}
+
+// The recording of an accepted command.
+fn accepted(
+    alloc: Global,
+    app: &Text,
+    command: &Command,
+    at: Moment,
+    events: StoredEvents,
+) -> Result<Recording, NoMemory>
+    ensures { IfOk result (λ r. r ≡ recording_at (Cause.Command (command_text app.now command.now)) at events) }
+{
+    let text = command_text(alloc, app, command)?;
+    Ok(Recording {
+        cause: Cause::Command { text },
+        at,
+        events,
+    })
+}
+
+/// The domain event of a leader's notification.
+pub fn convert(
+    alloc: Global,
+    sys: &System,
+    leader: &Text,
+    notification: &Notification,
+) -> Result<DomainEvent, RunFault>
+    ensures converts { Converts sys.now leader.now notification.now result }
+    ensures notice { notification.now.id < 2 ^ 62 → notification.now.event.originator_version < 2 ^ 62 → IsTrue (is_some (app_named sys.now.apps leader.now)) → IfOk result (λ e. IsNotice sys.now (notice leader.now notification.now.id e)) }
+{
+    match to_domain(alloc, sys, &notification.event) {
+        Ok(event) => Ok(event),
+        Err(MapFault::NoMemory) => Err(RunFault::NoMemory),
+        Err(_) => Err(unreadable(leader, notification.id)),
+    }
+}
+
+impl<R: ProcessRecorder> Application<R> {
+    // Adds a recording that nothing but want of room refuses.
+    fn add(&mut self, recording: &Recording) -> Result<Inserted, RunFault>
+        requires insertable { IsInsertable recording.now }
+        requires fits { IfSome (R.history self.old.recorder) (λ h. Fits h recording.now) }
+        ensures adds { (h : List Recording) → R.history self.old.recorder ≡ Some h → Adds (R.capacity self.old.recorder) self.old.name h recording.now result (R.history self.new.recorder) }
+        ensures faults { IfErr result MayFailToAdd }
+        ensures same_name { self.new.name ≡ self.old.name }
+        ensures same_turns { self.new.turns ≡ self.old.turns }
+        ensures same_used { self.new.used ≡ self.old.used }
+        ensures same_capacity { R.capacity self.new.recorder ≡ R.capacity self.old.recorder }
+        ensures same_snapshots { R.snapshots self.new.recorder ≡ R.snapshots self.old.recorder }
+        ensures later { R.faults self.old.recorder ≤ R.faults self.new.recorder }
+        ensures failed { IsErrOf result RunFault.Recorder → Rose (R.faults self.old.recorder) (R.faults self.new.recorder) }
+    {
+        match self.recorder.insert(recording) {
+            Ok(inserted) => Ok(inserted),
+            Err(InsertFault::Full { last, capacity }) => Err(full(&self.name, last, capacity)),
+            Err(InsertFault::Failed) => Err(RunFault::Recorder),
+            Err(InsertFault::NoMemory) => Err(RunFault::NoMemory),
+            Err(
+                InsertFault::Conflict {
+                    id: _,
+                    version: _,
+                    latest: _,
+                },
+            ) => unreachable!(),
+            Err(
+                InsertFault::Tracking {
+                    leader: _,
+                    id: _,
+                    tracked: _,
+                },
+            ) => unreachable!(),
+        }
+    }
+
+    /// Answers a command: a recording is added unless it is refused. One reading of the clock is taken,
+    /// unless the command expects another version.
+    pub fn answer<C: Clock>(
+        &mut self,
+        alloc: Global,
+        sys: &System,
+        command: &Command,
+        clock: &mut C,
+    ) -> Result<Reply, RunFault>
+        requires checked { IsCheckedSystem sys.now }
+        requires declared { IsDeclared sys.now self.old.name command.now }
+        ensures leaves { (h : List Recording) (r : Readings) → R.history self.old.recorder ≡ Some h → C.readings clock.old ≡ Some r
+            → Leaves (command_answer sys.now (R.capacity self.old.recorder) self.old.name h command.now (first_reading r)) h result (R.history self.new.recorder) }
+        ensures reading { (h : List Recording) (r : Readings) → R.history self.old.recorder ≡ Some h → C.readings clock.old ≡ Some r
+            → OnOk result (C.readings clock.new ≡ Some (readings_after h command.now r)) }
+        ensures faults { IfErr result MayFailToAdd }
+        ensures same_name { self.new.name ≡ self.old.name }
+        ensures same_turns { self.new.turns ≡ self.old.turns }
+        ensures same_used { self.new.used ≡ self.old.used }
+        ensures same_capacity { R.capacity self.new.recorder ≡ R.capacity self.old.recorder }
+        ensures same_snapshots { R.snapshots self.new.recorder ≡ R.snapshots self.old.recorder }
+        ensures later { R.faults self.old.recorder ≤ R.faults self.new.recorder }
+        ensures failed { IsErrOf result RunFault.Recorder → Rose (R.faults self.old.recorder) (R.faults self.new.recorder) }
+    {
+        let version = self.recorder.latest_version(command.id)?;
+        if expects_other(command.expect, version) {
+            return Ok(Reply::Conflict { latest: version });
+        }
+        let at = clock.now();
+        self.decide(alloc, sys, command, version, at)
+    }
+
+    // Decides a command at a moment, and adds what it gives. The aggregate has this version.
+    fn decide(
+        &mut self,
+        alloc: Global,
+        sys: &System,
+        command: &Command,
+        version: u64,
+        at: Moment,
+    ) -> Result<Reply, RunFault>
+        requires checked { IsCheckedSystem sys.now }
+        requires declared { IsDeclared sys.now self.old.name command.now }
+        requires small { version < 2 ^ 62 }
+        ensures leaves { (h : List Recording) → R.history self.old.recorder ≡ Some h → version ≡ latest (log h) command.now.id
+            → Leaves (answer_of (R.capacity self.old.recorder) self.old.name h (command_text self.old.name command.now) command.now.id at (decision_of self.old.name (command_verdict sys.now command.now at h))) h result (R.history self.new.recorder) }
+        ensures faults { IfErr result MayFailToAdd }
+        ensures same_name { self.new.name ≡ self.old.name }
+        ensures same_turns { self.new.turns ≡ self.old.turns }
+        ensures same_used { self.new.used ≡ self.old.used }
+        ensures same_capacity { R.capacity self.new.recorder ≡ R.capacity self.old.recorder }
+        ensures same_snapshots { R.snapshots self.new.recorder ≡ R.snapshots self.old.recorder }
+        ensures later { R.faults self.old.recorder ≤ R.faults self.new.recorder }
+        ensures failed { IsErrOf result RunFault.Recorder → Rose (R.faults self.old.recorder) (R.faults self.new.recorder) }
+    {
+        let verdict = judge_command(alloc, sys, &mut self.recorder, command, at)?;
+        self.answer_with(alloc, command, version, at, verdict)
+    }
+
+    // Answers a command by what it decides.
+    fn answer_with(
+        &mut self,
+        alloc: Global,
+        command: &Command,
+        version: u64,
+        at: Moment,
+        verdict: Verdict,
+    ) -> Result<Reply, RunFault>
+        requires small { version < 2 ^ 62 }
+        requires verdict { IsSmallVerdict verdict }
+        requires follows { IfSome (R.history self.old.recorder) (λ h. FollowsIn (log h) verdict) }
+        ensures leaves { (h : List Recording) → R.history self.old.recorder ≡ Some h → version ≡ latest (log h) command.now.id
+            → Leaves (answer_of (R.capacity self.old.recorder) self.old.name h (command_text self.old.name command.now) command.now.id at (decision_of self.old.name verdict)) h result (R.history self.new.recorder) }
+        ensures faults { IfErr result MayFailToAdd }
+        ensures same_name { self.new.name ≡ self.old.name }
+        ensures same_turns { self.new.turns ≡ self.old.turns }
+        ensures same_used { self.new.used ≡ self.old.used }
+        ensures same_capacity { R.capacity self.new.recorder ≡ R.capacity self.old.recorder }
+        ensures same_snapshots { R.snapshots self.new.recorder ≡ R.snapshots self.old.recorder }
+        ensures later { R.faults self.old.recorder ≤ R.faults self.new.recorder }
+        ensures failed { IsErrOf result RunFault.Recorder → Rose (R.faults self.old.recorder) (R.faults self.new.recorder) }
+    {
+        match verdict {
+            Verdict::Events(events) => self.accept(alloc, command, version, at, events),
+            Verdict::Refused { code, rule: _ } => Ok(Reply::Refused { code }),
+            Verdict::Unreadable { id } => {
+                let app = self.name.copy()?;
+                Ok(Reply::Unreadable { app, id })
+            }
+        }
+    }
+
+    // Adds the events of a command.
+    fn accept(
+        &mut self,
+        alloc: Global,
+        command: &Command,
+        version: u64,
+        at: Moment,
+        events: StoredEvents,
+    ) -> Result<Reply, RunFault>
+        requires small { version < 2 ^ 62 }
+        requires versions { All (λ e. e.originator_version < 2 ^ 63) events }
+        requires follows { IfSome (R.history self.old.recorder) (λ h. first_conflict (log h) events ≡ None) }
+        ensures leaves { (h : List Recording) → R.history self.old.recorder ≡ Some h → version ≡ latest (log h) command.now.id
+            → Leaves (accept_unless (too_many (R.capacity self.old.recorder) (length (log h)) events) (R.capacity self.old.recorder) self.old.name h (recording_at (Cause.Command (command_text self.old.name command.now)) at events) command.now.id) h result (R.history self.new.recorder) }
+        ensures faults { IfErr result MayFailToAdd }
+        ensures same_name { self.new.name ≡ self.old.name }
+        ensures same_turns { self.new.turns ≡ self.old.turns }
+        ensures same_used { self.new.used ≡ self.old.used }
+        ensures same_capacity { R.capacity self.new.recorder ≡ R.capacity self.old.recorder }
+        ensures same_snapshots { R.snapshots self.new.recorder ≡ R.snapshots self.old.recorder }
+        ensures later { R.faults self.old.recorder ≤ R.faults self.new.recorder }
+        ensures failed { IsErrOf result RunFault.Recorder → Rose (R.faults self.old.recorder) (R.faults self.new.recorder) }
+    {
+        let version = version + count_own(events.as_slice(), command.id);
+        let recording = accepted(alloc, &self.name, command, at, events)?;
+        match self.add(&recording) {
+            Ok(inserted) => Ok(Reply::Accepted {
+                recording: inserted.recording,
+                first: inserted.first,
+                last: inserted.last,
+                version,
+            }),
+            Err(fault) => Err(fault),
+        }
+    }
+
+    /// The greatest notification id of a leader that it tracks.
+    pub fn tracked(&mut self, leader: &Text) -> Result<u64, RunFault>
+        ensures value { IfSome (R.history self.old.recorder) (λ h. IfOk result (λ id. id ≡ tracked_in h leader.now)) }
+        ensures small { IfOk result (λ id. id < 2 ^ 62) }
+        ensures faults { IfErr result MayFailToRead }
+        ensures same { IsSame R.history R.capacity self.old self.new }
+        ensures same_snapshots { R.snapshots self.new.recorder ≡ R.snapshots self.old.recorder }
+        ensures later { R.faults self.old.recorder ≤ R.faults self.new.recorder }
+        ensures failed { IsErrOf result RunFault.Recorder → Rose (R.faults self.old.recorder) (R.faults self.new.recorder) }
+    {
+        Ok(self.recorder.max_tracking_id(leader)?)
+    }
+
+    /// Its notification after one that is tracked, if there is one.
+    pub fn next_after(&mut self, tracked: u64) -> Result<Option<Notification>, RunFault>
+        requires { tracked < 2 ^ 62 }
+        ensures found { IfSome (R.history self.old.recorder) (λ h. IfOk result (IsNextAfter (log h) tracked)) }
+        ensures small { IfOk result (λ found. IfSome found IsSmall) }
+        ensures faults { IfErr result MayFailToRead }
+        ensures same { IsSame R.history R.capacity self.old self.new }
+        ensures same_snapshots { R.snapshots self.new.recorder ≡ R.snapshots self.old.recorder }
+        ensures later { R.faults self.old.recorder ≤ R.faults self.new.recorder }
+        ensures failed { IsErrOf result RunFault.Recorder → Rose (R.faults self.old.recorder) (R.faults self.new.recorder) }
+    {
+        let next = self.recorder.select_notifications(tracked + 1, 1)?;
+        Ok(next.into_vec().pop())
+    }
+
+    /// Processes a notification of a leader: the next one is recorded with the events that follow from
+    /// it, and any other changes nothing.
+    pub fn process<C: Clock>(
+        &mut self,
+        alloc: Global,
+        sys: &System,
+        leader: &Text,
+        notification: &Notification,
+        clock: &mut C,
+    ) -> Result<Processed, RunFault>
+        requires checked { IsCheckedSystem sys.now }
+        requires app { IsTrue (is_some (app_named sys.now.apps self.old.name)) }
+        requires leader { IsTrue (is_some (app_named sys.now.apps leader.now)) }
+        requires small { IsSmall notification.now }
+        ensures processed { (logs : Logs) (h : List Recording) (r : Readings) → slice_get (logs leader.now) (notification.now.id - 1) ≡ Some notification.now.event
+            → R.history self.old.recorder ≡ Some h → C.readings clock.old ≡ Some r
+            → Processes leader.now notification.now.id
+            (followed (rules_of sys.now) (options (R.capacity self.old.recorder) self.old.turns) self.old.name h self.old.used logs leader.now notification.now.id (first_reading r))
+            h self.old.used r result (R.history self.new.recorder) self.new.used (C.readings clock.new) }
+        ensures counts { self.old.used ≤ self.new.used }
+        ensures bounded { self.old.used ≤ self.old.turns → self.new.used ≤ self.new.turns }
+        ensures counted { IsRecorded result → self.new.used ≡ self.old.used + 1 }
+        ensures free { IsRecorded result → self.old.used < self.old.turns }
+        ensures same_name { self.new.name ≡ self.old.name }
+        ensures same_turns { self.new.turns ≡ self.old.turns }
+        ensures same_capacity { R.capacity self.new.recorder ≡ R.capacity self.old.recorder }
+        ensures same_snapshots { R.snapshots self.new.recorder ≡ R.snapshots self.old.recorder }
+        ensures later { R.faults self.old.recorder ≤ R.faults self.new.recorder }
+        ensures failed { IsErrOf result RunFault.Recorder → Rose (R.faults self.old.recorder) (R.faults self.new.recorder) }
+    {
+        let tracked = self.recorder.max_tracking_id(leader)?;
+        if notification.id <= tracked {
+            return Ok(Processed::Skipped { tracked });
+        }
+        if notification.id > tracked + 1 {
+            return Ok(Processed::Gap { tracked });
+        }
+        match self.take(alloc, sys, leader, notification, clock) {
+            Ok(inserted) => Ok(Processed::Recorded {
+                first: inserted.first,
+                last: inserted.last,
+            }),
+            Err(fault) => Err(fault),
+        }
+    }
+
+    // Records the next notification, unless all turns are used or it has no meaning.
+    fn take<C: Clock>(
+        &mut self,
+        alloc: Global,
+        sys: &System,
+        leader: &Text,
+        notification: &Notification,
+        clock: &mut C,
+    ) -> Result<Inserted, RunFault>
+        requires checked { IsCheckedSystem sys.now }
+        requires app { IsTrue (is_some (app_named sys.now.apps self.old.name)) }
+        requires leader { IsTrue (is_some (app_named sys.now.apps leader.now)) }
+        requires small { IsSmall notification.now }
+        requires next { IfSome (R.history self.old.recorder) (λ h. notification.now.id ≡ tracked_in h leader.now + 1) }
+        ensures taken { (logs : Logs) (h : List Recording) (r : Readings) → slice_get (logs leader.now) (notification.now.id - 1) ≡ Some notification.now.event
+            → R.history self.old.recorder ≡ Some h → C.readings clock.old ≡ Some r
+            → Takes (followed (rules_of sys.now) (options (R.capacity self.old.recorder) self.old.turns) self.old.name h self.old.used logs leader.now notification.now.id (first_reading r))
+            h self.old.used r result (R.history self.new.recorder) self.new.used (C.readings clock.new) }
+        ensures counted { OnOk result (self.new.used ≡ self.old.used + 1) }
+        ensures uncounted { OnErr result (self.new.used ≡ self.old.used) }
+        ensures free { OnOk result (self.old.used < self.old.turns) }
+        ensures same_name { self.new.name ≡ self.old.name }
+        ensures same_turns { self.new.turns ≡ self.old.turns }
+        ensures same_capacity { R.capacity self.new.recorder ≡ R.capacity self.old.recorder }
+        ensures same_snapshots { R.snapshots self.new.recorder ≡ R.snapshots self.old.recorder }
+        ensures later { R.faults self.old.recorder ≤ R.faults self.new.recorder }
+        ensures failed { IsErrOf result RunFault.Recorder → Rose (R.faults self.old.recorder) (R.faults self.new.recorder) }
+    {
+        if self.used >= self.turns {
+            let app = self.name.copy()?;
+            let turns = self.turns;
+            return Err(RunFault::Turns { app, turns });
+        }
+        match convert(alloc, sys, leader, notification) {
+            Ok(event) => {
+                let at = clock.now();
+                self.record(alloc, sys, leader, notification.id, &event, at)
+            }
+            Err(fault) => Err(fault),
+        }
+    }
+
+    // Records the next notification at a moment, with the events that follow from its domain event.
+    fn record(
+        &mut self,
+        alloc: Global,
+        sys: &System,
+        leader: &Text,
+        id: u64,
+        event: &DomainEvent,
+        at: Moment,
+    ) -> Result<Inserted, RunFault>
+        requires checked { IsCheckedSystem sys.now }
+        requires app { IsTrue (is_some (app_named sys.now.apps self.old.name)) }
+        requires notice { IsNotice sys.now (notice leader.now id event.now) }
+        requires free { self.old.used < self.old.turns }
+        requires next { IfSome (R.history self.old.recorder) (λ h. id ≡ tracked_in h leader.now + 1) }
+        ensures records { (h : List Recording) → R.history self.old.recorder ≡ Some h
+            → Records (followed_of (R.capacity self.old.recorder) self.old.name h leader.now id at (decision_of self.old.name (policy_verdict sys.now self.old.name (notice leader.now id event.now) at h))) h result (R.history self.new.recorder) }
+        ensures counted { OnOk result (self.new.used ≡ self.old.used + 1) }
+        ensures uncounted { OnErr result (self.new.used ≡ self.old.used) }
+        ensures same_name { self.new.name ≡ self.old.name }
+        ensures same_turns { self.new.turns ≡ self.old.turns }
+        ensures same_capacity { R.capacity self.new.recorder ≡ R.capacity self.old.recorder }
+        ensures same_snapshots { R.snapshots self.new.recorder ≡ R.snapshots self.old.recorder }
+        ensures later { R.faults self.old.recorder ≤ R.faults self.new.recorder }
+        ensures failed { IsErrOf result RunFault.Recorder → Rose (R.faults self.old.recorder) (R.faults self.new.recorder) }
+    {
+        let events = match self.follow(alloc, sys, leader, id, event, at) {
+            Ok(events) => events,
+            Err(fault) => return Err(fault),
+        };
+        let cause = Cause::Notification {
+            leader: leader.copy()?,
+            id,
+        };
+        let recording = Recording { cause, at, events };
+        match self.add(&recording) {
+            Ok(inserted) => {
+                self.used += 1;
+                Ok(inserted)
+            }
+            Err(fault) => Err(fault),
+        }
+    }
+
+    // The events that follow from a leader's event by the policy, or that it refuses.
+    fn follow(
+        &mut self,
+        alloc: Global,
+        sys: &System,
+        leader: &Text,
+        id: u64,
+        event: &DomainEvent,
+        at: Moment,
+    ) -> Result<StoredEvents, RunFault>
+        requires checked { IsCheckedSystem sys.now }
+        requires app { IsTrue (is_some (app_named sys.now.apps self.old.name)) }
+        requires notice { IsNotice sys.now (notice leader.now id event.now) }
+        ensures decides { (h : List Recording) → R.history self.old.recorder ≡ Some h
+            → Decides self.old.name h leader.now id (decision_of self.old.name (policy_verdict sys.now self.old.name (notice leader.now id event.now) at h)) result }
+        ensures small { IfOk result (λ es. All (λ e. e.originator_version < 2 ^ 63) es) }
+        ensures follows { (h : List Recording) → R.history self.old.recorder ≡ Some h → IfOk result (λ es. first_conflict (log h) es ≡ None) }
+        ensures faults { IfErr result MayRefuse }
+        ensures same { IsSame R.history R.capacity self.old self.new }
+        ensures same_snapshots { R.snapshots self.new.recorder ≡ R.snapshots self.old.recorder }
+        ensures later { R.faults self.old.recorder ≤ R.faults self.new.recorder }
+        ensures failed { IsErrOf result RunFault.Recorder → Rose (R.faults self.old.recorder) (R.faults self.new.recorder) }
+    {
+        let verdict = judge_policy(
+            alloc,
+            sys,
+            &self.name,
+            &mut self.recorder,
+            leader,
+            id,
+            event,
+            at,
+        )?;
+        self.follow_with(leader, id, verdict)
+    }
+
+    // The events of what a policy decides, or the fault that it is.
+    fn follow_with(
+        &mut self,
+        leader: &Text,
+        id: u64,
+        verdict: Verdict,
+    ) -> Result<StoredEvents, RunFault>
+        requires verdict { IsSmallVerdict verdict }
+        ensures decides { (h : List Recording) → R.history self.old.recorder ≡ Some h → Decides self.old.name h leader.now id (decision_of self.old.name verdict) result }
+        ensures events { IfOk result (λ es. verdict ≡ verdicts.Events es) }
+        ensures faults { IfErr result MayRefuse }
+        ensures same { IsSame R.history R.capacity self.old self.new }
+        ensures same_snapshots { R.snapshots self.new.recorder ≡ R.snapshots self.old.recorder }
+        ensures later { R.faults self.old.recorder ≤ R.faults self.new.recorder }
+        ensures failed { IsErrOf result RunFault.Recorder → Rose (R.faults self.old.recorder) (R.faults self.new.recorder) }
+    {
+        match verdict {
+            Verdict::Events(events) => Ok(events),
+            Verdict::Refused { code, rule } => {
+                let recordings = self.recorder.recordings()?;
+                Err(self.refusal(leader, id, recordings, code, rule))
+            }
+            Verdict::Unreadable { id } => Err(unreadable(&self.name, id)),
+        }
+    }
+
+    // The refusal of a notification by a rule of the policy.
+    fn refusal(&self, leader: &Text, id: u64, recordings: u64, code: Text, rule: u64) -> RunFault
+        ensures { (result ≡ RunFault.Refused self.now.name leader.now id recordings code rule) ⊎ (result ≡ RunFault.NoMemory) }
+    {
+        let Ok(app) = self.name.copy() else {
+            return RunFault::NoMemory;
+        };
+        let Ok(leader) = leader.copy() else {
+            return RunFault::NoMemory;
+        };
+        RunFault::Refused {
+            app,
+            leader,
+            id,
+            recordings,
+            code,
+            rule,
+        }
+    }
+}
