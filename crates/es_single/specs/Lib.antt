@@ -1,0 +1,5 @@
+pub mod Counts
+pub mod Limits
+pub mod Runs
+pub mod Serves
+pub mod Taken

@@ -1,0 +1,89 @@
+-- What a run over opened applications leaves, before the end line.
+use Rattle.std.specs.Prelude.{◌≡◌, ℕ, List, [], ◌++◌, Contains, Option, Some, Result, Ok, Err}
+use Rattle.std.specs.Io.KnownBytes.{Appends}
+use Rattle.es_model.specs.declared.memory.Failed.{Failed}
+use Rattle.es_model.specs.History.{Histories}
+use Rattle.es_model.specs.Lines.{NoLineFeed}
+use Rattle.es_model.specs.Values.{Name}
+use Rattle.es_io.specs.Readings.{Readings}
+use Rattle.es_lines.specs.declared.ends.End.{End}
+use Rattle.es_lines.specs.declared.ends.End.TheVariants as end
+use Rattle.es_process.specs.SingleThread.{Step, Run, IsRun, start, left_by, written_by}
+use Rattle.es_process.specs.Standing.{State, IsFrontOf}
+use Rattle.es_process.specs.Terms.{Terms}
+use Rattle.es_single.specs.Limits.{all_lines}
+use Rattle.es_single.specs.Taken.{EndsLine}
+
+-- the state at these openings, before the run
+abbrev pub state_of : Histories → Readings → State
+state_of openings readings = record { histories = openings; readings = readings; used = λ app. 0 }
+
+-- none of these applications holds a recording
+abbrev pub AreEmpty : List Name → Histories → Type 0
+AreEmpty names openings = (app : Name) → Contains names app → openings app ≡ []
+
+-- the run of an input
+abbrev pub IsRunOf : Terms → List ℕ → Readings → Histories → Run → Type 0
+IsRunOf t input readings openings run = IsRun t.rules t.options openings (start t.rules openings readings (all_lines input)) run
+
+-- the first steps of the run were made, with a front of the next text, and the histories are what they leave
+pub record PartRun (t : Terms) (openings : Histories) (readings : Readings) (input : List ℕ) (left : Histories → Type 0) (before now : Option (List ℕ)) (front : List ℕ) : Type 0 where
+  pub run : Run
+  pub done : List Step
+  pub rest : List Step
+  pub is : IsRunOf t input readings openings run
+  pub parts : run.steps ≡ done ++ rest
+  pub next : IsFrontOf front rest
+  pub held : left (left_by done openings)
+  pub written : Appends before now (written_by done ++ front)
+
+-- all steps of the run were made, and it ended so
+pub record WholeRun (t : Terms) (openings : Histories) (readings : Readings) (input : List ℕ) (left : Histories → Type 0) (before now : Option (List ℕ)) (e : End) : Type 0 where
+  pub steps : List Step
+  pub is : IsRunOf t input readings openings (record { steps = steps; end = e })
+  pub held : left (left_by steps openings)
+  pub written : Appends before now (written_by steps)
+
+-- reading failed after these steps: they are all steps of the run of the lines that were taken whole, which were all answered; of the bytes that were taken after these no line feed is left
+pub record ReadTo (t : Terms) (input : List ℕ) (readings : Readings) (openings : Histories) (unread : Option (List ℕ)) (done : List Step) : Type 0 where
+  pub answered : List ℕ
+  pub begun : List ℕ
+  pub rest : List ℕ
+  pub unread_is : unread ≡ Some rest
+  pub parts : input ≡ answered ++ (begun ++ rest)
+  pub unended : NoLineFeed begun
+  pub ends : EndsLine answered
+  pub run : Run
+  pub is : IsRunOf t answered readings openings run
+  pub steps : run.steps ≡ done
+  pub ended : (added : List (Name × ℕ)) × (count : ℕ) × (run.end ≡ end.Ok added count)
+
+-- reading cut the run short
+abbrev pub ReadRun : Terms → Histories → Readings → List ℕ → Option (List ℕ) → (Histories → Type 0) → Option (List ℕ) → Option (List ℕ) → Type 0
+ReadRun t openings readings input unread left before now = (x : PartRun t openings readings input left before now []) × ReadTo t input readings openings unread x.done
+
+-- a claim by the end: of a run that came to an end of its own, of one that was cut short, of one that reading cut short, and any other
+abbrev pub ByEnd : End → (End → Type 0) → Type 0 → Type 0 → Type 0 → Type 0
+ByEnd (end.Ok added lines) own cut read other = own (end.Ok added lines)
+ByEnd (end.Refused app leader id recordings code rule) own cut read other = own (end.Refused app leader id recordings code rule)
+ByEnd (end.Turns app turns) own cut read other = own (end.Turns app turns)
+ByEnd (end.Unreadable app id) own cut read other = own (end.Unreadable app id)
+ByEnd (end.Full app last capacity) own cut read other = own (end.Full app last capacity)
+ByEnd end.Over own cut read other = own end.Over
+ByEnd end.Memory own cut read other = cut
+ByEnd end.Input own cut read other = read
+ByEnd end.Recorder own cut read other = cut
+ByEnd end.NotBuilt own cut read other = other
+ByEnd end.Usage own cut read other = other
+ByEnd (end.Declaration code path) own cut read other = other
+ByEnd end.System own cut read other = other
+
+-- an end that comes of running lines
+abbrev pub IsRunning : End → Type 0
+IsRunning e = ByEnd e (λ x. Unit {0}) (Unit {0}) (Unit {0}) ⊥
+
+-- what a run over empty applications leaves, by how it ended; or the sink failed in a text
+abbrev pub Runs : Terms → Histories → Readings → List ℕ → Option (List ℕ) → (Histories → Type 0) → Option (List ℕ) → Option (List ℕ) → Result End Failed → Type 0
+Runs t openings readings input unread left before now (Ok e) =
+    ByEnd e (λ x. WholeRun t openings readings input left before now x) (PartRun t openings readings input left before now []) (ReadRun t openings readings input unread left before now) ⊥
+Runs t openings readings input unread left before now (Err failed) = (front : List ℕ) × PartRun t openings readings input left before now front

@@ -1,0 +1,188 @@
+ghost use Rattle.std.specs.Prelude.{◌≡◌, ◌⊎◌, ◌≤◌, ℕ, [], List, Some, Ok, IfOk, IfErr, IsErrOf, OnOk, OnErr, length};
+ghost use Rattle.es_model.specs.declared.event.Recording.{Recording};
+ghost use Rattle.es_model.specs.Causes.{Rose};
+ghost use Rattle.es_model.specs.History.{Histories};
+ghost use Rattle.es_model.specs.Rising.{with_item};
+ghost use Rattle.es_io.specs.Readings.{Readings};
+ghost use Rattle.es_process.specs.Drains.{IsOnlyPair};
+ghost use Rattle.es_process.specs.Faults.{end_of};
+ghost use Rattle.es_process.specs.SingleThread.{leaders_of};
+ghost use Rattle.es_process.specs.Standing.{Holds, HoldHistories, Later, SomeRose, names_in, snapshots_in, AreDistinct, IsSame, MayFailToRead};
+ghost use Rattle.es_process.specs.SystemRules.{app_names, in_order, rules_of};
+ghost use Rattle.es_single.specs.Counts.{CountsTold, IsCounted};
+ghost use Rattle.es_single.specs.Limits.{limits, terms_of, TakesLines};
+ghost use Rattle.es_single.specs.Runs.{AreEmpty, IsRunning, Runs, state_of};
+
+use crate::serve::{Stop, serve};
+use es_decl::leaders;
+use es_io::{Clock, Lines, Sink, Source};
+use es_lines::End;
+use es_model::{CallFault, Counts, Duplicate, Failed, NoMemory, System};
+use es_process::{Application, Pair, RunFault};
+use es_recorder::ProcessRecorder;
+use std::alloc::Global;
+
+const LINE_LIMIT: u64 = 65536;
+
+const TOTAL_LIMIT: u64 = 1 << 30;
+
+// Gives an application's name the number of its recordings.
+fn count_one<R: ProcessRecorder>(
+    app: &mut Application<R>,
+    counts: &mut Counts,
+) -> Result<(), RunFault>
+    ensures counted { (h : List Recording) → R.history app.old.recorder ≡ Some h → OnOk result (counts.new ≡ with_item counts.old app.old.name (length h)) }
+    ensures faults { IfErr result MayFailToRead }
+    ensures same { IsSame R.history R.capacity app.old app.new }
+    ensures same_snapshots { R.snapshots app.new.recorder ≡ R.snapshots app.old.recorder }
+    ensures later { R.faults app.old.recorder ≤ R.faults app.new.recorder }
+    ensures recorder { IsErrOf result RunFault.Recorder → Rose (R.faults app.old.recorder) (R.faults app.new.recorder) }
+{
+    let number = match app.recorder.recordings() {
+        Ok(number) => number,
+        Err(CallFault::Failed) => return Err(RunFault::Recorder),
+        Err(CallFault::NoMemory) => return Err(RunFault::NoMemory),
+    };
+    let Ok(name) = app.name.copy() else {
+        return Err(RunFault::NoMemory);
+    };
+    match counts.put(name, number) {
+        Ok(()) => Ok(()),
+        Err(NoMemory) => Err(RunFault::NoMemory),
+    }
+}
+
+// Gives each application's name the number of its recordings, from the last application to the first.
+fn count_each<R: ProcessRecorder>(
+    apps: &mut [Application<R>],
+    counts: &mut Counts,
+) -> Result<(), RunFault>
+    requires distinct { AreDistinct (names_in apps.old) }
+    requires empty { counts.old ≡ [] }
+    ensures counted { (base h : Histories) → HoldHistories R.history base apps.old h → OnOk result (counts.new ≡ in_order (λ n. length (h n)) (names_in apps.old)) }
+    ensures same { (base h : Histories) → HoldHistories R.history base apps.old h → HoldHistories R.history base apps.new h }
+    ensures faults { IfErr result MayFailToRead }
+    ensures same_names { names_in apps.new ≡ names_in apps.old }
+    ensures same_snapshots { snapshots_in R.snapshots apps.new ≡ snapshots_in R.snapshots apps.old }
+    ensures later { Later R.faults apps.old apps.new }
+    ensures recorder { IsErrOf result RunFault.Recorder → SomeRose R.faults apps.old apps.new }
+{
+    let mut place = apps.len();
+    while place > 0 {
+        place -= 1;
+        match count_one(&mut apps[place], counts) {
+            Ok(()) => {}
+            Err(fault) => return Err(fault),
+        }
+    }
+    Ok(())
+}
+
+// The end of a run whose lines were all answered, over applications that were empty.
+fn counted<R: ProcessRecorder>(alloc: Global, apps: &mut [Application<R>], lines: u64) -> End
+    requires distinct { AreDistinct (names_in apps.old) }
+    ensures counts { (base h : Histories) → HoldHistories R.history base apps.old h → CountsTold (in_order (λ n. length (h n)) (names_in apps.old)) lines result }
+    ensures counted { IsCounted result }
+    ensures same { (base h : Histories) → HoldHistories R.history base apps.old h → HoldHistories R.history base apps.new h }
+    ensures same_names { names_in apps.new ≡ names_in apps.old }
+    ensures same_snapshots { snapshots_in R.snapshots apps.new ≡ snapshots_in R.snapshots apps.old }
+    ensures later { Later R.faults apps.old apps.new }
+    ensures recorder { result ≡ End.Recorder → SomeRose R.faults apps.old apps.new }
+{
+    let mut added = Counts::new(alloc);
+    match count_each(apps, &mut added) {
+        Ok(()) => End::Ok { added, lines },
+        Err(fault) => fault_end(fault),
+    }
+}
+
+// The end of a run that a fault ended.
+fn fault_end(fault: RunFault) -> End
+    ensures { result ≡ end_of fault }
+{
+    match fault {
+        RunFault::Refused {
+            app,
+            leader,
+            id,
+            recordings,
+            code,
+            rule,
+        } => End::Refused {
+            app,
+            leader,
+            id,
+            recordings,
+            code,
+            rule,
+        },
+        RunFault::Turns { app, turns } => End::Turns { app, turns },
+        RunFault::Unreadable { app, id } => End::Unreadable { app, id },
+        RunFault::Full {
+            app,
+            last,
+            capacity,
+        } => End::Full {
+            app,
+            last,
+            capacity,
+        },
+        RunFault::Recorder => End::Recorder,
+        RunFault::NoMemory => End::Memory,
+    }
+}
+
+/// Runs a system over the lines of a source, over its opened applications, which hold nothing yet, and says how the
+/// run ends: all leaders are drained first, each line is answered before the next is read, and after an
+/// accepted one its followers process what it added. The end line isn't written. `Failed` is the sink's.
+pub fn run<S: Source, T: Sink, R: ProcessRecorder, C: Clock>(
+    alloc: Global,
+    sys: &System,
+    pair: &Option<Pair>,
+    lines: &mut S,
+    out: &mut T,
+    apps: &mut [Application<R>],
+    clock: &mut C,
+) -> Result<End, Failed>
+    requires pair { IsOnlyPair sys.now (names_in apps.old) pair.now }
+    ensures runs { (i : List ℕ) (openings : Histories) (r : Readings) → S.left lines.old ≡ Some i → AreEmpty (app_names sys.now) openings
+        → Holds R.history R.capacity openings limits apps.old (C.readings clock.old) (state_of openings r)
+        → Runs (terms_of sys.now) openings r i (S.left lines.new) (HoldHistories R.history openings apps.new) (T.written out.old) (T.written out.new) result }
+    ensures running { IfOk result IsRunning }
+    ensures same_names { names_in apps.new ≡ names_in apps.old }
+    ensures same_snapshots { snapshots_in R.snapshots apps.new ≡ snapshots_in R.snapshots apps.old }
+    ensures recorders_later { Later R.faults apps.old apps.new }
+    ensures out_later { T.faults out.old ≤ T.faults out.new }
+
+    // Unless memory ran out, at most one byte past the limit was taken from the lines.
+    ensures bound { (result ≡ Ok End.Memory) ⊎ TakesLines (S.left lines.old) (S.left lines.new) }
+
+    ensures input { result ≡ Ok End.Input → Rose (S.faults lines.old) (S.faults lines.new) }
+    ensures sink { OnErr result (Rose (T.faults out.old) (T.faults out.new)) }
+    ensures recorder { result ≡ Ok End.Recorder → SomeRose R.faults apps.old apps.new }
+{
+    let Ok(prompted) = leaders(alloc, sys) else {
+        return Ok(End::Memory);
+    };
+    let Ok(mut reader) = Lines::new(alloc, lines, LINE_LIMIT, TOTAL_LIMIT) else {
+        return Ok(End::Memory);
+    };
+    let (stop, count) = serve(
+        alloc,
+        sys,
+        pair,
+        &mut reader,
+        out,
+        apps,
+        clock,
+        prompted.as_slice(),
+    );
+    let _source = reader.into_source();
+    match stop {
+        Stop::End => Ok(counted(alloc, apps, count)),
+        Stop::Over => Ok(End::Over),
+        Stop::Fault(fault) => Ok(fault_end(fault)),
+        Stop::Read => Ok(End::Input),
+        Stop::Sink => Err(Failed),
+    }
+}

@@ -1,0 +1,350 @@
+ghost use Rattle.std.specs.Prelude.{◌≡◌, ◌<◌, ◌≤◌, ◌^◌, ℕ, List, Option, None, Some, false, OnOk, OnErr, IfErr, IsErrOf};
+ghost use Rattle.std.specs.List.{position_or_len};
+ghost use Rattle.std.specs.Str.{bytes_eq};
+ghost use Rattle.std.specs.Io.KnownBytes.{Appends};
+ghost use Rattle.es_model.specs.Causes.{HasCause, Rose};
+ghost use Rattle.es_model.specs.History.{Histories};
+ghost use Rattle.es_model.specs.Lines.{Line, text as text_line};
+ghost use Rattle.es_io.specs.Front.{AppendsFront};
+ghost use Rattle.es_io.specs.LinesLeft.{lines_left, unread_of, room_of, may_take, has_ended, source_of, fault_of, EndsRightly};
+ghost use Rattle.es_io.specs.Next.{EndsUnended, TakesAtMost};
+ghost use Rattle.es_lines.specs.Requests.{IsDeclared, asks, request_in};
+ghost use Rattle.es_process.specs.Answer.{Options};
+ghost use Rattle.es_process.specs.Drains.{IsOnlyPair};
+ghost use Rattle.es_process.specs.SingleThread.{leaders_of};
+ghost use Rattle.es_process.specs.Standing.{State, Holds, HoldHistories, Later, SomeRose, names_in, snapshots_in};
+ghost use Rattle.es_process.specs.SystemRules.{reply_to, rules_of};
+ghost use Rattle.es_process.specs.Terms.{terms};
+ghost use Rattle.es_single.specs.Serves.{SaysIt, DrainsAfter, RepliesAndDrains, AnswersLine, TakesTurn, Begun, Serves, prompted_by, IsSaying, IsFault, IsAnswering};
+ghost use Rattle.es_single.specs.Taken.{UsesTold, Taken};
+
+use es_domain::Command;
+use es_io::{Clock, Lines, LinesFault, Sink, Source, Step, write_all};
+use es_lines::{LineFault, Reply, Request, read_line, reply_text};
+use es_model::{Failed, NoMemory, System, Text};
+use es_process::{Application, Pair, RunFault, drain};
+use es_recorder::ProcessRecorder;
+use std::alloc::Global;
+use std::slice;
+
+/// Why no further line is answered.
+#[derive(Debug, Drop)]
+pub enum Stop {
+    /// No line is left.
+    End,
+    Over,
+    Fault(RunFault),
+    Read,
+    Sink,
+}
+
+/// Writes a line, and hands it on.
+pub fn write_line<T: Sink>(out: &mut T, line: &[u8]) -> Result<(), Failed>
+    ensures all { OnOk result (Appends (T.written out.old) (T.written out.new) line.now) }
+    ensures front { OnErr result (AppendsFront (T.written out.old) (T.written out.new) line.now) }
+    ensures cause { HasCause (T.faults out.old) (T.faults out.new) result }
+{
+    write_all(out, line)?;
+    out.flush()
+}
+
+// Replies to a line.
+fn say<T: Sink>(alloc: Global, out: &mut T, reply: &Reply) -> Result<(), Stop>
+    ensures said { SaysIt reply.now (T.written out.old) (T.written out.new) result }
+    ensures later { T.faults out.old ≤ T.faults out.new }
+    ensures sink { IsErrOf result Stop.Sink → Rose (T.faults out.old) (T.faults out.new) }
+    ensures stops { IfErr result IsSaying }
+{
+    let Ok(mut text) = reply_text(alloc, reply) else {
+        return Err(Stop::Fault(RunFault::NoMemory));
+    };
+    if text.push(b'\n').is_err() {
+        return Err(Stop::Fault(RunFault::NoMemory));
+    }
+    match write_line(out, text.as_slice()) {
+        Ok(()) => Ok(()),
+        Err(Failed) => Err(Stop::Sink),
+    }
+}
+
+// Replies to a command, and after an accepted one lets the followers process what it added.
+fn reply_and_drain<T: Sink, R: ProcessRecorder, C: Clock>(
+    alloc: Global,
+    sys: &System,
+    pair: &Option<Pair>,
+    out: &mut T,
+    apps: &mut [Application<R>],
+    clock: &mut C,
+    prompted: &[Text],
+    reply: &Reply,
+) -> Result<(), Stop>
+    requires pair { IsOnlyPair sys.now (names_in apps.old) pair.now }
+    ensures replied { (base : Histories) (options : Options) (s : State) → Holds R.history R.capacity base options apps.old (C.readings clock.old) s
+        → RepliesAndDrains (terms (rules_of sys.now) options) s (Holds R.history R.capacity base options apps.new (C.readings clock.new)) (prompted_by reply.now prompted.now) reply.now (HoldHistories R.history base apps.new)
+        (T.written out.old) (T.written out.new) result }
+    ensures same_names { names_in apps.new ≡ names_in apps.old }
+    ensures same_snapshots { snapshots_in R.snapshots apps.new ≡ snapshots_in R.snapshots apps.old }
+    ensures recorders_later { Later R.faults apps.old apps.new }
+    ensures out_later { T.faults out.old ≤ T.faults out.new }
+    ensures sink { IsErrOf result Stop.Sink → Rose (T.faults out.old) (T.faults out.new) }
+    ensures recorder { IsErrOf result (Stop.Fault RunFault.Recorder) → SomeRose R.faults apps.old apps.new }
+    ensures stops { IfErr result IsAnswering }
+{
+    match say(alloc, out, reply) {
+        Ok(()) => drain_after(alloc, sys, pair, apps, clock, prompted, reply),
+        Err(stop) => Err(stop),
+    }
+}
+
+// After an accepted command lets the followers process what it added.
+fn drain_after<R: ProcessRecorder, C: Clock>(
+    alloc: Global,
+    sys: &System,
+    pair: &Option<Pair>,
+    apps: &mut [Application<R>],
+    clock: &mut C,
+    prompted: &[Text],
+    reply: &Reply,
+) -> Result<(), Stop>
+    requires pair { IsOnlyPair sys.now (names_in apps.old) pair.now }
+    ensures drained { (base : Histories) (options : Options) (s : State) (u : Option (List ℕ)) → Holds R.history R.capacity base options apps.old (C.readings clock.old) s
+        → DrainsAfter (terms (rules_of sys.now) options) s (Holds R.history R.capacity base options apps.new (C.readings clock.new)) (prompted_by reply.now prompted.now) (HoldHistories R.history base apps.new) u result }
+    ensures faults { IfErr result IsFault }
+    ensures same_names { names_in apps.new ≡ names_in apps.old }
+    ensures same_snapshots { snapshots_in R.snapshots apps.new ≡ snapshots_in R.snapshots apps.old }
+    ensures later { Later R.faults apps.old apps.new }
+    ensures recorder { IsErrOf result (Stop.Fault RunFault.Recorder) → SomeRose R.faults apps.old apps.new }
+{
+    match reply {
+        Reply::Accepted {
+            recording: _,
+            first: _,
+            last: _,
+            version: _,
+        } => match drain(alloc, apps, sys, pair, prompted, clock) {
+            Ok(()) => Ok(()),
+            Err(fault) => Err(Stop::Fault(fault)),
+        },
+        Reply::Refused { code: _ } => Ok(()),
+        Reply::Syntax => Ok(()),
+        Reply::Unknown => Ok(()),
+        Reply::Kind => Ok(()),
+        Reply::Long => Ok(()),
+        Reply::Conflict { latest: _ } => Ok(()),
+        Reply::Unreadable { app: _, id: _ } => Ok(()),
+    }
+}
+
+// The place of the application of a name, where there is one.
+fn place_of<R>(apps: &[Application<R>], name: &Text) -> usize
+    ensures { result ≡ position_or_len (λ app. bytes_eq app.name name.now) apps.now }
+{
+    apps.iter()
+        .take_while(|app| app.name.as_str() != name.as_str())
+        .count()
+}
+
+// Answers a line that asks for a command of an application.
+fn answer_command<T: Sink, R: ProcessRecorder, C: Clock>(
+    alloc: Global,
+    sys: &System,
+    pair: &Option<Pair>,
+    out: &mut T,
+    apps: &mut [Application<R>],
+    clock: &mut C,
+    app: Text,
+    command: &Command,
+) -> Result<(), Stop>
+    requires pair { IsOnlyPair sys.now (names_in apps.old) pair.now }
+    requires declared { IsDeclared sys.now app command.now }
+    ensures answered { (base : Histories) (options : Options) (s : State) (line : List ℕ) → request_in sys.now line ≡ asks app command.now → Holds R.history R.capacity base options apps.old (C.readings clock.old) s
+        → AnswersLine (terms (rules_of sys.now) options) s (Holds R.history R.capacity base options apps.new (C.readings clock.new)) (text_line line) (HoldHistories R.history base apps.new)
+        (T.written out.old) (T.written out.new) result }
+    ensures same_names { names_in apps.new ≡ names_in apps.old }
+    ensures same_snapshots { snapshots_in R.snapshots apps.new ≡ snapshots_in R.snapshots apps.old }
+    ensures recorders_later { Later R.faults apps.old apps.new }
+    ensures out_later { T.faults out.old ≤ T.faults out.new }
+    ensures sink { IsErrOf result Stop.Sink → Rose (T.faults out.old) (T.faults out.new) }
+    ensures recorder { IsErrOf result (Stop.Fault RunFault.Recorder) → SomeRose R.faults apps.old apps.new }
+    ensures stops { IfErr result IsAnswering }
+{
+    let place = place_of(apps, &app);
+    match apps[place].answer(alloc, sys, command, clock) {
+        Ok(reply) => reply_and_drain(
+            alloc,
+            sys,
+            pair,
+            out,
+            apps,
+            clock,
+            slice::from_ref(&app),
+            &reply,
+        ),
+        Err(fault) => Err(Stop::Fault(fault)),
+    }
+}
+
+// Replies to a line that asks nothing.
+fn refuse<T: Sink>(alloc: Global, out: &mut T, fault: LineFault) -> Result<(), Stop>
+    ensures said { SaysIt (reply_to fault) (T.written out.old) (T.written out.new) result }
+    ensures starved { fault ≡ LineFault.NoMemory → result ≡ Err (Stop.Fault RunFault.NoMemory) }
+    ensures later { T.faults out.old ≤ T.faults out.new }
+    ensures sink { IsErrOf result Stop.Sink → Rose (T.faults out.old) (T.faults out.new) }
+    ensures stops { IfErr result IsSaying }
+{
+    match fault {
+        LineFault::Syntax => say(alloc, out, &Reply::Syntax),
+        LineFault::Unknown => say(alloc, out, &Reply::Unknown),
+        LineFault::Kind => say(alloc, out, &Reply::Kind),
+        LineFault::NoMemory => Err(Stop::Fault(RunFault::NoMemory)),
+    }
+}
+
+// Answers a line that isn't too long.
+fn answer_line<T: Sink, R: ProcessRecorder, C: Clock>(
+    alloc: Global,
+    sys: &System,
+    pair: &Option<Pair>,
+    out: &mut T,
+    apps: &mut [Application<R>],
+    clock: &mut C,
+    line: &[u8],
+) -> Result<(), Stop>
+    requires pair { IsOnlyPair sys.now (names_in apps.old) pair.now }
+    ensures answered { (base : Histories) (options : Options) (s : State) → Holds R.history R.capacity base options apps.old (C.readings clock.old) s
+        → AnswersLine (terms (rules_of sys.now) options) s (Holds R.history R.capacity base options apps.new (C.readings clock.new)) (text_line line.now) (HoldHistories R.history base apps.new)
+        (T.written out.old) (T.written out.new) result }
+    ensures same_names { names_in apps.new ≡ names_in apps.old }
+    ensures same_snapshots { snapshots_in R.snapshots apps.new ≡ snapshots_in R.snapshots apps.old }
+    ensures recorders_later { Later R.faults apps.old apps.new }
+    ensures out_later { T.faults out.old ≤ T.faults out.new }
+    ensures sink { IsErrOf result Stop.Sink → Rose (T.faults out.old) (T.faults out.new) }
+    ensures recorder { IsErrOf result (Stop.Fault RunFault.Recorder) → SomeRose R.faults apps.old apps.new }
+    ensures stops { IfErr result IsAnswering }
+{
+    match read_line(alloc, sys, line) {
+        Ok(Request::Do { app, command }) => {
+            answer_command(alloc, sys, pair, out, apps, clock, app, &command)
+        }
+        Err(fault) => refuse(alloc, out, fault),
+    }
+}
+
+// Answers the next line.
+fn turn<S: Source, T: Sink, R: ProcessRecorder, C: Clock>(
+    alloc: Global,
+    sys: &System,
+    pair: &Option<Pair>,
+    lines: &mut Lines<'_, S>,
+    out: &mut T,
+    apps: &mut [Application<R>],
+    clock: &mut C,
+) -> Result<(), Stop>
+    requires clear { fault_of lines.old ≡ None }
+    requires ends { EndsRightly S.left lines.old }
+    requires pair { IsOnlyPair sys.now (names_in apps.old) pair.now }
+    ensures turned { (base : Histories) (options : Options) (s : State) (ls : List Line) → Holds R.history R.capacity base options apps.old (C.readings clock.old) s → lines_left S.left lines.old ≡ Some ls
+        → TakesTurn (terms (rules_of sys.now) options) s (Holds R.history R.capacity base options apps.new (C.readings clock.new)) ls (lines_left S.left lines.new) (HoldHistories R.history base apps.new)
+        (T.written out.old) (T.written out.new) result }
+    ensures ends { EndsRightly S.left lines.new }
+    ensures uses { OnOk result (UsesTold (unread_of S.left lines.old) (unread_of S.left lines.new) (has_ended lines.new)) }
+    ensures not_ended { IsErrOf result Stop.Read → has_ended lines.old ≡ false }
+    ensures unended { IsErrOf result Stop.Read → EndsUnended (unread_of S.left lines.old) (S.left (source_of lines.new).now) }
+    ensures bound { TakesAtMost (S.left (source_of lines.old).now) (S.left (source_of lines.new).now) (may_take lines.old) (may_take lines.new) }
+    ensures same_reference { (source_of lines.new).ghost_name ≡ (source_of lines.old).ghost_name }
+    ensures room { OnOk result (room_of lines.new < room_of lines.old) }
+    ensures clear { OnOk result (fault_of lines.new ≡ None) }
+    ensures lines_later { S.faults (source_of lines.old).now ≤ S.faults (source_of lines.new).now }
+    ensures out_later { T.faults out.old ≤ T.faults out.new }
+    ensures same_names { names_in apps.new ≡ names_in apps.old }
+    ensures same_snapshots { snapshots_in R.snapshots apps.new ≡ snapshots_in R.snapshots apps.old }
+    ensures recorders_later { Later R.faults apps.old apps.new }
+    ensures read { IsErrOf result Stop.Read → Rose (S.faults (source_of lines.old).now) (S.faults (source_of lines.new).now) }
+    ensures sink { IsErrOf result Stop.Sink → Rose (T.faults out.old) (T.faults out.new) }
+    ensures recorder { IsErrOf result (Stop.Fault RunFault.Recorder) → SomeRose R.faults apps.old apps.new }
+{
+    match lines.next() {
+        Ok(Step::Line(line)) => answer_line(alloc, sys, pair, out, apps, clock, line.as_slice()),
+        Ok(Step::Long) => say(alloc, out, &Reply::Long),
+        Ok(Step::End) => Err(Stop::End),
+        Ok(Step::Over) => Err(Stop::Over),
+        Err(LinesFault::Read) => Err(Stop::Read),
+        Err(LinesFault::NoMemory) => Err(Stop::Fault(RunFault::NoMemory)),
+    }
+}
+
+// Answers the lines one by one, and says why it stopped and how many were answered.
+fn answer_all<S: Source, T: Sink, R: ProcessRecorder, C: Clock>(
+    alloc: Global,
+    sys: &System,
+    pair: &Option<Pair>,
+    lines: &mut Lines<'_, S>,
+    out: &mut T,
+    apps: &mut [Application<R>],
+    clock: &mut C,
+) -> (Stop, u64)
+    requires clear { fault_of lines.old ≡ None }
+    requires ends { EndsRightly S.left lines.old }
+    requires room { room_of lines.old < 2 ^ 63 }
+    requires pair { IsOnlyPair sys.now (names_in apps.old) pair.now }
+    ensures answered { (base : Histories) (options : Options) (s n : State) (ls : List Line) (u : Option (List ℕ)) → Begun (terms (rules_of sys.now) options) s n ls u (T.written out.old) → Holds R.history R.capacity base options apps.old (C.readings clock.old) n
+        → lines_left S.left lines.old ≡ Some ls
+        → Serves (terms (rules_of sys.now) options) s (Holds R.history R.capacity base options apps.new (C.readings clock.new)) ls result.0 result.1 (HoldHistories R.history base apps.new) u (T.written out.new) }
+    ensures taken { (bytes : List ℕ) → unread_of S.left lines.old ≡ Some bytes → result.0 ≡ Stop.Read → Taken bytes result.1 (S.left (source_of lines.new).now) }
+    ensures bound { TakesAtMost (S.left (source_of lines.old).now) (S.left (source_of lines.new).now) (may_take lines.old) (may_take lines.new) }
+    ensures same_reference { (source_of lines.new).ghost_name ≡ (source_of lines.old).ghost_name }
+    ensures lines_later { S.faults (source_of lines.old).now ≤ S.faults (source_of lines.new).now }
+    ensures out_later { T.faults out.old ≤ T.faults out.new }
+    ensures same_names { names_in apps.new ≡ names_in apps.old }
+    ensures same_snapshots { snapshots_in R.snapshots apps.new ≡ snapshots_in R.snapshots apps.old }
+    ensures recorders_later { Later R.faults apps.old apps.new }
+    ensures read { result.0 ≡ Stop.Read → Rose (S.faults (source_of lines.old).now) (S.faults (source_of lines.new).now) }
+    ensures sink { result.0 ≡ Stop.Sink → Rose (T.faults out.old) (T.faults out.new) }
+    ensures recorder { result.0 ≡ Stop.Fault RunFault.Recorder → SomeRose R.faults apps.old apps.new }
+{
+    let mut count: u64 = 0;
+    loop {
+        match turn(alloc, sys, pair, lines, out, apps, clock) {
+            Ok(()) => count += 1,
+            Err(stop) => return (stop, count),
+        }
+    }
+}
+
+/// Drains all leaders, answers the lines one by one, and says why it stopped and how many were
+/// answered. The prompted ones are all leaders.
+pub fn serve<S: Source, T: Sink, R: ProcessRecorder, C: Clock>(
+    alloc: Global,
+    sys: &System,
+    pair: &Option<Pair>,
+    lines: &mut Lines<'_, S>,
+    out: &mut T,
+    apps: &mut [Application<R>],
+    clock: &mut C,
+    prompted: &[Text],
+) -> (Stop, u64)
+    requires clear { fault_of lines.old ≡ None }
+    requires ends { EndsRightly S.left lines.old }
+    requires room { room_of lines.old < 2 ^ 63 }
+    requires pair { IsOnlyPair sys.now (names_in apps.old) pair.now }
+    requires prompted { prompted.now ≡ leaders_of (rules_of sys.now).pairs }
+    ensures served { (base : Histories) (options : Options) (s : State) (ls : List Line) → Holds R.history R.capacity base options apps.old (C.readings clock.old) s → lines_left S.left lines.old ≡ Some ls
+        → Serves (terms (rules_of sys.now) options) s (Holds R.history R.capacity base options apps.new (C.readings clock.new)) ls result.0 result.1 (HoldHistories R.history base apps.new)
+        (T.written out.old) (T.written out.new) }
+    ensures taken { (bytes : List ℕ) → unread_of S.left lines.old ≡ Some bytes → result.0 ≡ Stop.Read → Taken bytes result.1 (S.left (source_of lines.new).now) }
+    ensures bound { TakesAtMost (S.left (source_of lines.old).now) (S.left (source_of lines.new).now) (may_take lines.old) (may_take lines.new) }
+    ensures same_reference { (source_of lines.new).ghost_name ≡ (source_of lines.old).ghost_name }
+    ensures lines_later { S.faults (source_of lines.old).now ≤ S.faults (source_of lines.new).now }
+    ensures out_later { T.faults out.old ≤ T.faults out.new }
+    ensures same_names { names_in apps.new ≡ names_in apps.old }
+    ensures same_snapshots { snapshots_in R.snapshots apps.new ≡ snapshots_in R.snapshots apps.old }
+    ensures recorders_later { Later R.faults apps.old apps.new }
+    ensures read { result.0 ≡ Stop.Read → Rose (S.faults (source_of lines.old).now) (S.faults (source_of lines.new).now) }
+    ensures sink { result.0 ≡ Stop.Sink → Rose (T.faults out.old) (T.faults out.new) }
+    ensures recorder { result.0 ≡ Stop.Fault RunFault.Recorder → SomeRose R.faults apps.old apps.new }
+{
+    match drain(alloc, apps, sys, pair, prompted, clock) {
+        Ok(()) => answer_all(alloc, sys, pair, lines, out, apps, clock),
+        Err(fault) => (Stop::Fault(fault), 0),
+    }
+}
