@@ -1,19 +1,6 @@
-mod AmongLemmas
-mod ApplicationLemmas
-mod ConsistentLemmas
-mod DecidedLemmas
-mod DrainLemmas
+mod DeclaresLemmas
 mod EndLemmas
-mod FollowsLemmas
-mod LoopLemmas
-mod ReadingLemmas
-mod RunReachedLemmas
-mod RunSessionLemmas
-mod SampleLemmas
-mod ServesLemmas
-mod SessionLemmas
-mod SingleThreadLemmas
-mod StandingLemmas
-mod TakenLemmas
 mod TopLemmas
-mod TurnsLemmas
+pub mod LoadingLemmas
+pub mod OpeningLemmas
+pub mod PairingLemmas

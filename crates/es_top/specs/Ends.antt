@@ -1,7 +1,9 @@
 -- Statuses, and the ends of a run that they tell.
-use Rattle.std.specs.Prelude.{ℕ, Bool, true, false}
+use Rattle.std.specs.Prelude.{◌≡◌, ◌⊎◌, ℕ, Bool, true, false}
 use Rattle.es_lines.specs.declared.ends.End.{End}
 use Rattle.es_lines.specs.declared.ends.End.TheVariants as end
+use Rattle.es_top.specs.declared.loading.LoadFault.{LoadFault}
+use Rattle.es_top.specs.declared.loading.LoadFault.TheVariants.{Declaration, Failed, NoMemory}
 use Rattle.es_top.specs.declared.status.Status.{Status}
 use Rattle.es_top.specs.declared.status.Status.TheVariants as status
 
@@ -53,3 +55,39 @@ is_fixed end.Input = true
 is_fixed end.Recorder = true
 is_fixed end.Over = true
 is_fixed end.NotBuilt = true
+
+-- the end of a run whose system couldn't be loaded
+abbrev pub end_of_load : LoadFault → End
+end_of_load (Declaration code path) = end.Declaration code path
+end_of_load Failed = end.System
+end_of_load NoMemory = end.Memory
+
+-- a status that a fault of the document or of the sink gives, or want of memory
+abbrev pub IsStopped : Status → Type 0
+IsStopped result = (result ≡ status.System) ⊎ (result ≡ status.Sink) ⊎ (result ≡ status.Memory)
+
+-- a claim on a run of which it is seen how far it came: memory didn't run out, and the sink didn't fail
+abbrev pub IfSeen : Status → Type 0 → Type 0
+IfSeen result P = (result ≡ status.Memory) ⊎ ((result ≡ status.Sink) ⊎ P)
+
+-- a claim on the end of a run that didn't begin
+abbrev pub OfEarly : Status → (End → Type 0) → Type 0
+OfEarly status.Usage P = P end.Usage
+OfEarly (status.Declaration code path) P = P (end.Declaration code path)
+OfEarly status.System P = P end.System
+OfEarly s P = Unit {0}
+
+-- the run didn't begin
+abbrev pub IsEarly : Status → Type 0
+IsEarly status.Usage = Unit {0}
+IsEarly (status.Declaration code path) = Unit {0}
+IsEarly status.System = Unit {0}
+IsEarly s = ⊥
+
+-- an end of a run that didn't begin
+abbrev pub IsEarlyEnd : End → Type 0
+IsEarlyEnd end.Usage = Unit {0}
+IsEarlyEnd (end.Declaration code path) = Unit {0}
+IsEarlyEnd end.System = Unit {0}
+IsEarlyEnd end.Memory = Unit {0}
+IsEarlyEnd e = ⊥

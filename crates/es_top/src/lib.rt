@@ -1,14 +1,12 @@
-//! The top call: words, the run on one thread, and its end.
+//! The top call: words, the system that they ask for, the run on one thread over the stores, and its end.
 #![tactic(auto)]
 
-mod application;
-mod applications;
-mod faults;
-mod request;
-mod run;
-mod states;
+mod ending;
+mod loading;
+mod opening;
 mod status;
 mod top;
+mod words;
 
 pub use status::Status;
 pub use top::evsys_single;

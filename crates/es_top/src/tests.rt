@@ -1,56 +1,103 @@
-use crate::application::{Application, Processed};
-use crate::applications::Applications;
-use crate::faults::RunFault;
 use crate::{Status, evsys_single};
-use es_io::{ListClock, MemoryDocument, MemorySink, MemorySource};
-use es_lines::{End, Reply, end_text, reply_text};
-use es_memory::{Content, Contents, MemoryRecorder, MemoryStores, are_formed, is_formed};
+use es_io::{Documents, ListClock, MemoryDocument, MemorySink, MemorySource};
+use es_lines::End;
+use es_memory::{Content, Contents, MemoryRecorder, MemoryStores, are_formed};
 use es_model::{
-    Bytes, CallFault, Calls, Cause, Counts, Duplicate, List, Moment, Moments, NoMemory,
-    Notification, Recording, Recordings, Snapshots, StoredEvent, StoredEvents, Text,
+    Bytes, CallFault, Calls, Cause, Duplicate, List, Moment, Moments, NoMemory, Recording,
+    Recordings, Snapshots, StoredEvent, StoredEvents, Text,
 };
 use es_recorder::{ApplicationRecorder, ProcessRecorder, Stores};
 use std::alloc::Global;
-use std::fmt::Write;
 use std::test::Fail;
 use uuid::Uuid;
 
 const OPEN: &str =
     "{\"app\":\"bank\",\"args\":{\"owner\":\"ann\"},\"do\":\"Account.Open\",\"id\":\"00000000000000000000000000000001\"}\n";
 
-const OTHER: &str =
-    "{\"app\":\"bank\",\"args\":{\"owner\":\"\"},\"do\":\"Account.Open\",\"id\":\"0123456789abcdef0123456789abcdef\"}";
-
-const UPPER: &str =
-    "{\"app\":\"bank\",\"args\":{\"owner\":\"ann\"},\"do\":\"Account.Open\",\"id\":\"0123456789ABCDEF0123456789abcdef\"}\n";
-
-const SPACED: &str =
-    "{\"app\":\"bank\", \"args\":{\"owner\":\"ann\"},\"do\":\"Account.Open\",\"id\":\"00000000000000000000000000000001\"}\n";
-
 const DEPOSIT: &str =
     "{\"app\":\"bank\",\"args\":{\"amount\":5},\"do\":\"Account.Deposit\",\"id\":\"00000000000000000000000000000001\"}\n";
 
-const FIRST: &str = "{\"first\":1,\"last\":1,\"ok\":\"do\",\"recording\":1,\"version\":1}\n";
+const DEPOSIT_NOTHING: &str =
+    "{\"app\":\"bank\",\"args\":{\"amount\":0},\"do\":\"Account.Deposit\",\"id\":\"00000000000000000000000000000001\"}\n";
 
-const SECOND: &str = "{\"first\":2,\"last\":2,\"ok\":\"do\",\"recording\":2,\"version\":1}\n";
+const DEPOSIT_MUCH: &str =
+    "{\"app\":\"bank\",\"args\":{\"amount\":500},\"do\":\"Account.Deposit\",\"id\":\"00000000000000000000000000000001\"}\n";
+
+const DEPOSIT_MOST: &str =
+    "{\"app\":\"bank\",\"args\":{\"amount\":9223372036854775807},\"do\":\"Account.Deposit\",\"id\":\"00000000000000000000000000000001\"}\n";
+
+const WITHDRAW: &str =
+    "{\"app\":\"bank\",\"args\":{\"amount\":6},\"do\":\"Account.Withdraw\",\"id\":\"00000000000000000000000000000001\"}\n";
+
+const EXPECT_1: &str =
+    "{\"app\":\"bank\",\"args\":{\"amount\":5},\"do\":\"Account.Deposit\",\"expect\":1,\"id\":\"00000000000000000000000000000001\"}\n";
+
+const EXPECT_2: &str =
+    "{\"app\":\"bank\",\"args\":{\"amount\":5},\"do\":\"Account.Deposit\",\"expect\":2,\"id\":\"00000000000000000000000000000001\"}\n";
+
+const REORDERED: &str =
+    "{\"do\":\"Account.Deposit\",\"app\":\"bank\",\"id\":\"00000000-0000-0000-0000-000000000001\",\"args\":{\"amount\":5},\"expect\":3}\n";
+
+const REORDERED_CAUSE: &str =
+    "{\"app\":\"bank\",\"args\":{\"amount\":5},\"do\":\"Account.Deposit\",\"expect\":3,\"id\":\"00000000000000000000000000000001\"}";
+
+const NO_TEXT: &str =
+    "{\"app\":\"bank\",\"args\":{\"owner\":1},\"do\":\"Account.Open\",\"id\":\"00000000000000000000000000000001\"}\n";
+
+const NO_APP: &str =
+    "{\"app\":\"none\",\"args\":{},\"do\":\"Account.Open\",\"id\":\"00000000000000000000000000000001\"}\n";
+
+const BEGIN: &str =
+    "{\"app\":\"notes\",\"args\":{},\"do\":\"Note.Begin\",\"id\":\"00000000000000000000000000000001\"}\n";
+
+const ACCEPTED_1: &str = "{\"first\":1,\"last\":1,\"ok\":\"do\",\"recording\":1,\"version\":1}\n";
+
+const ACCEPTED_2: &str = "{\"first\":2,\"last\":2,\"ok\":\"do\",\"recording\":2,\"version\":2}\n";
+
+const ACCEPTED_3: &str = "{\"first\":3,\"last\":3,\"ok\":\"do\",\"recording\":3,\"version\":3}\n";
+
+const ACCEPTED_4: &str = "{\"first\":4,\"last\":4,\"ok\":\"do\",\"recording\":4,\"version\":4}\n";
 
 const EXISTS: &str = "{\"code\":\"exists\",\"error\":\"refused\"}\n";
 
+const MISSING: &str = "{\"code\":\"missing\",\"error\":\"refused\"}\n";
+
+const AMOUNT: &str = "{\"code\":\"amount\",\"error\":\"refused\"}\n";
+
+const FUNDS: &str = "{\"code\":\"funds\",\"error\":\"refused\"}\n";
+
+const OVERFLOW: &str = "{\"code\":\"overflow\",\"error\":\"refused\"}\n";
+
+const CONFLICT: &str = "{\"error\":\"conflict\",\"latest\":2}\n";
+
 const SYNTAX: &str = "{\"error\":\"syntax\"}\n";
 
-const NONE_OF_NONE: &str = "{\"added\":{\"audit\":0,\"bank\":0},\"end\":\"ok\",\"lines\":0}\n";
+const UNKNOWN: &str = "{\"error\":\"unknown\"}\n";
 
-const NONE_OF_THREE: &str = "{\"added\":{\"audit\":0,\"bank\":0},\"end\":\"ok\",\"lines\":3}\n";
+const KIND: &str = "{\"error\":\"kind\"}\n";
 
-const ONE_OF_ONE: &str = "{\"added\":{\"audit\":1,\"bank\":1},\"end\":\"ok\",\"lines\":1}\n";
+const ADDED_0_OF_0: &str = "{\"added\":{\"audit\":0,\"bank\":0},\"end\":\"ok\",\"lines\":0}\n";
 
-const ONE_OF_TWO: &str = "{\"added\":{\"audit\":1,\"bank\":1},\"end\":\"ok\",\"lines\":2}\n";
+const ADDED_0_OF_3: &str = "{\"added\":{\"audit\":0,\"bank\":0},\"end\":\"ok\",\"lines\":3}\n";
 
-const ONE_OF_THREE: &str = "{\"added\":{\"audit\":1,\"bank\":1},\"end\":\"ok\",\"lines\":3}\n";
+const ADDED_1_OF_1: &str = "{\"added\":{\"audit\":1,\"bank\":1},\"end\":\"ok\",\"lines\":1}\n";
 
-const TWO_OF_TWO: &str = "{\"added\":{\"audit\":2,\"bank\":2},\"end\":\"ok\",\"lines\":2}\n";
+const ADDED_1_OF_2: &str = "{\"added\":{\"audit\":1,\"bank\":1},\"end\":\"ok\",\"lines\":2}\n";
+
+const ADDED_1_OF_4: &str = "{\"added\":{\"audit\":1,\"bank\":1},\"end\":\"ok\",\"lines\":4}\n";
+
+const ADDED_2_OF_3: &str = "{\"added\":{\"audit\":2,\"bank\":2},\"end\":\"ok\",\"lines\":3}\n";
+
+const ADDED_4_OF_5: &str = "{\"added\":{\"audit\":4,\"bank\":4},\"end\":\"ok\",\"lines\":5}\n";
+
+const ADDED_NOTE: &str = "{\"added\":{\"notes\":1},\"end\":\"ok\",\"lines\":1}\n";
+
+const LARGE: &str =
+    "{\"app\":\"audit\",\"code\":\"large\",\"end\":\"refused\",\"id\":2,\"leader\":\"bank\",\"recordings\":1,\"rule\":2}\n";
 
 const USAGE: &str = "{\"end\":\"usage\"}\n";
+
+const SYSTEM: &str = "{\"end\":\"system\"}\n";
 
 const INPUT: &str = "{\"end\":\"input\"}\n";
 
@@ -58,9 +105,29 @@ const RECORDER: &str = "{\"end\":\"recorder\"}\n";
 
 const NOT_BUILT: &str = "{\"end\":\"not-built\"}\n";
 
-const OPENED: &str = "Account.Opened";
+// The sample, whose command `Note` takes at most 100.
+const STRICT: &str =
+    "{\"apps\":[{\"classes\":[\"Account\"],\"name\":\"bank\"},{\"classes\":[\"Statement\"],\"name\":\"audit\",\"policy\":[{\"args\":{},\"do\":\"Statement.Start\",\"on\":\"Account.Opened\",\"target\":{\"get\":\"id\"}},{\"args\":{\"amount\":{\"get\":\"event.amount\"}},\"do\":\"Statement.Note\",\"on\":\"Account.Deposited\",\"target\":{\"get\":\"id\"}},{\"args\":{\"amount\":{\"sub\":[{\"int\":0},{\"get\":\"event.amount\"}]}},\"do\":\"Statement.Note\",\"on\":\"Account.Withdrawn\",\"target\":{\"get\":\"id\"}},{\"args\":{},\"do\":\"Statement.Flag\",\"on\":\"Account.Withdrawn\",\"target\":{\"get\":\"id\"}}]}],\"classes\":[{\"commands\":[{\"name\":\"Open\",\"params\":{\"owner\":\"text\"},\"trigger\":[{\"event\":\"Opened\",\"fields\":{\"owner\":{\"get\":\"arg.owner\"}}}]},{\"name\":\"Deposit\",\"params\":{\"amount\":\"int\"},\"require\":[{\"code\":\"amount\",\"that\":{\"lt\":[{\"int\":0},{\"get\":\"arg.amount\"}]}}],\"trigger\":[{\"event\":\"Deposited\",\"fields\":{\"amount\":{\"get\":\"arg.amount\"}}}]},{\"name\":\"Withdraw\",\"params\":{\"amount\":\"int\"},\"require\":[{\"code\":\"amount\",\"that\":{\"lt\":[{\"int\":0},{\"get\":\"arg.amount\"}]}},{\"code\":\"funds\",\"that\":{\"le\":[{\"get\":\"arg.amount\"},{\"get\":\"self.balance\"}]}}],\"trigger\":[{\"event\":\"Withdrawn\",\"fields\":{\"amount\":{\"get\":\"arg.amount\"}}}]}],\"created\":{\"fields\":{\"owner\":\"text\"},\"name\":\"Opened\",\"set\":{\"balance\":{\"int\":0},\"owner\":{\"get\":\"event.owner\"}}},\"events\":[{\"fields\":{\"amount\":\"int\"},\"name\":\"Deposited\",\"set\":{\"balance\":{\"add\":[{\"get\":\"self.balance\"},{\"get\":\"event.amount\"}]}}},{\"fields\":{\"amount\":\"int\"},\"name\":\"Withdrawn\",\"set\":{\"balance\":{\"sub\":[{\"get\":\"self.balance\"},{\"get\":\"event.amount\"}]}}}],\"fields\":{\"balance\":\"int\",\"owner\":\"text\"},\"name\":\"Account\"},{\"commands\":[{\"name\":\"Start\",\"params\":{},\"trigger\":[{\"event\":\"Started\",\"fields\":{}}]},{\"name\":\"Note\",\"params\":{\"amount\":\"int\"},\"require\":[{\"code\":\"large\",\"that\":{\"le\":[{\"get\":\"arg.amount\"},{\"int\":100}]}}],\"trigger\":[{\"event\":\"Noted\",\"fields\":{\"amount\":{\"get\":\"arg.amount\"}}}]},{\"name\":\"Flag\",\"params\":{},\"trigger\":[{\"event\":\"Flagged\",\"fields\":{}}]}],\"created\":{\"fields\":{},\"name\":\"Started\",\"set\":{\"entries\":{\"int\":0},\"flags\":{\"int\":0},\"total\":{\"int\":0}}},\"events\":[{\"fields\":{\"amount\":\"int\"},\"name\":\"Noted\",\"set\":{\"entries\":{\"add\":[{\"get\":\"self.entries\"},{\"int\":1}]},\"total\":{\"add\":[{\"get\":\"self.total\"},{\"get\":\"event.amount\"}]}}},{\"fields\":{},\"name\":\"Flagged\",\"set\":{\"flags\":{\"add\":[{\"get\":\"self.flags\"},{\"int\":1}]}}}],\"fields\":{\"entries\":\"int\",\"flags\":\"int\",\"total\":\"int\"},\"name\":\"Statement\"}],\"pipes\":[[\"bank\",\"audit\"]]}";
 
-const CLOSED: &str = "Account.Closed";
+// One application that follows nobody.
+const NOTES: &str =
+    "{\"apps\":[{\"classes\":[\"Note\"],\"name\":\"notes\"}],\"classes\":[{\"name\":\"Note\",\"fields\":{\"text\":\"text\"},\"created\":{\"name\":\"Begun\",\"fields\":{},\"set\":{\"text\":{\"text\":\"\"}}},\"commands\":[{\"name\":\"Begin\",\"params\":{},\"trigger\":[{\"event\":\"Begun\",\"fields\":{}}]}]}],\"pipes\":[]}";
+
+// A class that wants a snapshot at every other version.
+const SNAPSHOTS: &str =
+    "{\"apps\":[{\"classes\":[\"Note\"],\"name\":\"notes\"}],\"classes\":[{\"name\":\"Note\",\"interval\":2,\"fields\":{},\"created\":{\"name\":\"Begun\",\"fields\":{},\"set\":{}}}],\"pipes\":[]}";
+
+// Two applications that follow each other.
+const CYCLE: &str =
+    "{\"apps\":[{\"classes\":[],\"name\":\"ping\"},{\"classes\":[],\"name\":\"pong\"}],\"classes\":[],\"pipes\":[[\"ping\",\"pong\",\"ping\"]]}";
+
+const OWN_LEADER: &str =
+    "{\"apps\":[{\"classes\":[],\"name\":\"bank\"}],\"classes\":[],\"pipes\":[[\"bank\",\"bank\"]]}";
+
+const OWN_LEADER_FAULT: &str =
+    "{\"code\":\"pipe\",\"end\":\"declaration\",\"path\":\"/pipes/0/1\"}\n";
+
+const NO_DOCUMENT_FAULT: &str = "{\"code\":\"form\",\"end\":\"declaration\",\"path\":\"\"}\n";
 
 // How many recordings an application holds, the id of its last notification, and the last one of
 // the bank that it tracks.
@@ -68,17 +135,39 @@ type Held = (u64, u64, u64);
 
 const EMPTY: Held = (0, 0, 0);
 
+const NOTHING: [Held; 2] = [EMPTY, EMPTY];
+
 // One recording, from a command.
 const LED: Held = (1, 1, 0);
 
-// One recording in the bank, and that of its notification in audit.
-const BOTH: [Held; 2] = [LED, (1, 1, 1)];
+// Events of commands in the bank, and as many recordings of audit with an event each.
+const BOTH_1: [Held; 2] = [(1, 1, 0), (1, 1, 1)];
 
-// What a run is given besides its words and its input: which reads, writes and opens fail, counted
-// from 1, the room of the sink, and the application that holds a recording, if one does.
-type Given<'a> = (&'a [u64], &'a [u64], &'a [u64], u64, &'a str);
+const BOTH_2: [Held; 2] = [(2, 2, 0), (2, 2, 2)];
 
-const PLAIN: Given<'static> = (&[], &[], &[], 999, "");
+const BOTH_4: [Held; 2] = [(4, 4, 0), (4, 4, 4)];
+
+// What a run is given besides its words, the document `system.json` and its input: which reads, writes,
+// opens of stores and calls of the document fail, counted from 1, the room of the sink, and the
+// application that holds a recording, if one does.
+#[derive(Clone, Copy)]
+struct Given<'a> {
+    reads: &'a [u64],
+    writes: &'a [u64],
+    opens: &'a [u64],
+    documents: &'a [u64],
+    room: u64,
+    occupied: &'a str,
+}
+
+const PLAIN: Given<'static> = Given {
+    reads: &[],
+    writes: &[],
+    opens: &[],
+    documents: &[],
+    room: 999,
+    occupied: "",
+};
 
 fn calls(alloc: Global, numbers: &[u64]) -> Result<Calls, NoMemory> {
     let mut calls = List::new(alloc);
@@ -86,15 +175,6 @@ fn calls(alloc: Global, numbers: &[u64]) -> Result<Calls, NoMemory> {
         calls.push(*number)?;
     }
     Ok(calls)
-}
-
-// A clock that stands at 0 after these readings.
-fn clock(alloc: Global, micros: &[i64]) -> Result<ListClock, NoMemory> {
-    let mut readings = Moments::new(alloc);
-    for micro in micros {
-        readings.push(Moment::nearest(*micro))?;
-    }
-    Ok(ListClock::new(readings, Moment::nearest(0)))
 }
 
 // A text of several parts.
@@ -114,15 +194,25 @@ fn texts(alloc: Global, words: &[&str]) -> Result<Vec<String>, NoMemory> {
     Ok(texts)
 }
 
-// What was written to a sink.
-fn written(alloc: Global, out: &MemorySink) -> Result<Vec<u8>, NoMemory> {
-    Ok(out.bytes().to_vec(alloc)?)
+// One document, by its name.
+fn documents(alloc: Global, text: &str) -> Result<Documents, NoMemory> {
+    let mut documents = Documents::new(alloc);
+    documents.push((
+        Text::from_str(alloc, "system.json")?,
+        Bytes::from_slice(alloc, text.as_bytes())?,
+    ))?;
+    Ok(documents)
 }
 
-// A command's recording with the first event of an originator.
-fn recording(alloc: Global, topic: &str, originator: u128) -> Result<Recording, NoMemory> {
+// A command's recording with the first event of an account.
+fn recording(alloc: Global) -> Result<Recording, NoMemory> {
     let mut events = StoredEvents::new(alloc);
-    events.push(event(alloc, topic, originator)?)?;
+    events.push(StoredEvent {
+        originator_id: Uuid::from_u128(7),
+        originator_version: 1,
+        topic: Text::from_str(alloc, "Account.Opened")?,
+        state: Bytes::new(alloc),
+    })?;
     Ok(Recording {
         cause: Cause::Command {
             text: Bytes::new(alloc),
@@ -132,21 +222,12 @@ fn recording(alloc: Global, topic: &str, originator: u128) -> Result<Recording, 
     })
 }
 
-fn event(alloc: Global, topic: &str, originator: u128) -> Result<StoredEvent, NoMemory> {
-    Ok(StoredEvent {
-        originator_id: Uuid::from_u128(originator),
-        originator_version: 1,
-        topic: Text::from_str(alloc, topic)?,
-        state: Bytes::new(alloc),
-    })
-}
-
 // Stores with one recording in an application, if one is named.
 fn stores(alloc: Global, occupied: &str, opens: &[u64]) -> Result<MemoryStores, NoMemory> {
     let mut contents: Contents = List::new(alloc);
     if !occupied.is_empty() {
         let mut recordings = Recordings::new(alloc);
-        recordings.push(recording(alloc, OPENED, 7)?)?;
+        recordings.push(recording(alloc)?)?;
         contents.push(Content {
             app: Text::from_str(alloc, occupied)?,
             recordings,
@@ -181,11 +262,12 @@ fn left(alloc: Global, stores: &mut MemoryStores) -> Result<[Held; 2], CallFault
 fn ran(
     alloc: Global,
     words: &[&str],
+    document: &str,
     input: &[&str],
     given: Given<'_>,
 ) -> Result<(u8, Vec<u8>, [Held; 2]), CallFault> {
-    let mut stores = stores(alloc, given.4, given.2)?;
-    let (code, bytes) = ran_over(alloc, words, input, given, &mut stores)?;
+    let mut stores = stores(alloc, given.occupied, given.opens)?;
+    let (code, bytes) = ran_over(alloc, words, document, input, given, &mut stores)?;
     Ok((code, bytes, left(alloc, &mut stores)?))
 }
 
@@ -193,17 +275,18 @@ fn ran(
 fn ran_over(
     alloc: Global,
     words: &[&str],
+    document: &str,
     input: &[&str],
     given: Given<'_>,
     stores: &mut MemoryStores,
 ) -> Result<(u8, Vec<u8>), CallFault> {
-    let (reads, writes, _, room, _) = given;
     let texts = texts(alloc, words)?;
-    let mut system = MemoryDocument::new(alloc, List::new(alloc), List::new(alloc));
+    let documents = documents(alloc, document)?;
+    let mut system = MemoryDocument::new(alloc, documents, calls(alloc, given.documents)?);
     let bytes = Bytes::from_slice(alloc, joined(alloc, input)?.as_bytes())?;
-    let mut lines = MemorySource::new(bytes, calls(alloc, reads)?);
-    let mut out = MemorySink::new(alloc, room, calls(alloc, writes)?)?;
-    let mut clock = clock(alloc, &[])?;
+    let mut lines = MemorySource::new(bytes, calls(alloc, given.reads)?);
+    let mut out = MemorySink::new(alloc, given.room, calls(alloc, given.writes)?)?;
+    let mut clock = ListClock::new(Moments::new(alloc), Moment::nearest(0));
     let status = evsys_single(
         alloc,
         &texts,
@@ -213,85 +296,199 @@ fn ran_over(
         stores,
         &mut clock,
     );
-    let bytes = written(alloc, &out)?;
-    Ok((status.code(), bytes))
+    Ok((status.code(), out.bytes().to_vec(alloc)?))
 }
 
-// The state of the first event of an application's log.
-fn first_state(alloc: Global, stores: &mut MemoryStores, app: &str) -> Result<Bytes, Fail> {
+// The recording of an application at a place, from 0, or nothing.
+fn event_state(
+    alloc: Global,
+    stores: &mut MemoryStores,
+    app: &str,
+    id: u64,
+) -> Result<Bytes, Fail> {
     let app = Text::from_str(alloc, app)?;
     let mut recorder = stores.open(None, &app, 1000)?;
-    let notifications = recorder.select_notifications(1, 1)?;
-    let Some(first) = notifications.as_slice().first() else {
+    let notifications = recorder.select_notifications(id, 1)?;
+    let Some(found) = notifications.as_slice().first() else {
         return Err("no notification".into());
     };
-    Ok(first.event.state.copy()?)
-}
-
-#[test]
-fn states_are_records(rt: HostRuntime) -> Result<(), Fail> {
-    let alloc = rt.alloc();
-    let mut stores = stores(alloc, "", &[])?;
-    let (code, _) = ran_over(alloc, &["run", "sample"], &[OPEN], PLAIN, &mut stores)?;
-    assert_eq!(rt; code, 0);
-    let opened = first_state(alloc, &mut stores, "bank")?;
-    assert!(rt; opened.as_slice() == OPENED_STATE.as_bytes());
-    let started = first_state(alloc, &mut stores, "audit")?;
-    assert!(rt; started.as_slice() == STARTED_STATE.as_bytes());
-    Ok(())
+    let state = found.event.state.copy()?;
+    stores.close(&app, recorder);
+    Ok(state)
 }
 
 const OPENED_STATE: &str =
     "{\"originator_topic\":\"Account\",\"owner\":\"ann\",\"timestamp\":{\"_data_\":\"1970-01-01T00:00:00+00:00\",\"_type_\":\"datetime_iso\"}}";
 
+const DEPOSITED_STATE: &str =
+    "{\"amount\":5,\"timestamp\":{\"_data_\":\"1970-01-01T00:00:00+00:00\",\"_type_\":\"datetime_iso\"}}";
+
 const STARTED_STATE: &str =
     "{\"originator_topic\":\"Statement\",\"timestamp\":{\"_data_\":\"1970-01-01T00:00:00+00:00\",\"_type_\":\"datetime_iso\"}}";
+
+#[test]
+fn states_are_records(rt: HostRuntime) -> Result<(), Fail> {
+    let alloc = rt.alloc();
+    let mut stores = stores(alloc, "", &[])?;
+    let words = &["run", "sample"];
+    let (code, _) = ran_over(alloc, words, "", &[OPEN, DEPOSIT], PLAIN, &mut stores)?;
+    assert_eq!(rt; code, 0);
+    for (app, id, expected) in [
+        ("bank", 1, OPENED_STATE),
+        ("bank", 2, DEPOSITED_STATE),
+        ("audit", 1, STARTED_STATE),
+        ("audit", 2, DEPOSITED_STATE),
+    ] {
+        let state = event_state(alloc, &mut stores, app, id)?;
+        assert!(rt; state.as_slice() == expected.as_bytes(), "{expected}");
+    }
+    Ok(())
+}
+
+#[test]
+fn causes_are_canonical(rt: HostRuntime) -> Result<(), Fail> {
+    let alloc = rt.alloc();
+    let mut stores = stores(alloc, "", &[])?;
+    let words = &["run", "sample"];
+    let input = &[OPEN, DEPOSIT, EXPECT_2, REORDERED];
+    let (code, _) = ran_over(alloc, words, "", input, PLAIN, &mut stores)?;
+    assert_eq!(rt; code, 0);
+    let bank = Text::from_str(alloc, "bank")?;
+    let (history, _) = stores.open(None, &bank, 1000)?.into_parts();
+    let Some(Recording { cause, .. }) = history.as_slice().get(3) else {
+        return Err("no fourth recording".into());
+    };
+    let Cause::Command { text } = cause else {
+        return Err("no command".into());
+    };
+    assert!(rt; text.as_slice() == REORDERED_CAUSE.as_bytes());
+    Ok(())
+}
 
 // A program that is always out of memory meets its contract, and fails here: there is memory, so
 // the account is opened, its statement is started, and the run ends well.
 #[test]
 fn always_out_of_memory_fails_here(rt: HostRuntime) -> Result<(), Fail> {
     let alloc = rt.alloc();
-    let (code, bytes, held) = ran(alloc, &["run", "sample"], &[OPEN], PLAIN)?;
-    let output = joined(alloc, &[FIRST, ONE_OF_ONE])?;
+    let (code, bytes, held) = ran(alloc, &["run", "sample"], "", &[OPEN], PLAIN)?;
+    let output = joined(alloc, &[ACCEPTED_1, ADDED_1_OF_1])?;
     assert_eq!(rt; code, 0);
     assert!(rt; bytes.as_slice() == output.as_bytes());
-    assert_eq!(rt; held, BOTH);
+    assert_eq!(rt; held, BOTH_1);
     Ok(())
 }
 
-// The lines of an input, the lines that are written, and how many recordings each application has
-// after it.
-const LINES: [(&[&str], &[&str], u64); 5] = [
-    (&[], &[NONE_OF_NONE], 0),
-    (&[OPEN, OPEN], &[FIRST, EXISTS, ONE_OF_TWO], 1),
-    (&[OPEN, OTHER], &[FIRST, SECOND, TWO_OF_TWO], 2),
+// A system's name, the document, the lines of an input, the lines that are written, the status, and what the
+// stores hold after it.
+const RUNS: [(&str, &str, &[&str], &[&str], u8, [Held; 2]); 16] = [
+    ("sample", "", &[], &[ADDED_0_OF_0], 0, NOTHING),
     (
-        &[DEPOSIT, UPPER, SPACED],
-        &[SYNTAX, SYNTAX, SYNTAX, NONE_OF_THREE],
+        "sample",
+        "",
+        &[OPEN, DEPOSIT, WITHDRAW],
+        &[ACCEPTED_1, ACCEPTED_2, FUNDS, ADDED_2_OF_3],
         0,
+        BOTH_2,
     ),
     (
-        &["\n", "x\n", OPEN],
-        &[SYNTAX, SYNTAX, FIRST, ONE_OF_THREE],
-        1,
+        "sample",
+        "",
+        &[OPEN, DEPOSIT_MOST, DEPOSIT_MOST],
+        &[ACCEPTED_1, ACCEPTED_2, OVERFLOW, ADDED_2_OF_3],
+        0,
+        BOTH_2,
     ),
+    (
+        "sample",
+        "",
+        &[OPEN, DEPOSIT, EXPECT_1, EXPECT_2, REORDERED],
+        &[
+            ACCEPTED_1,
+            ACCEPTED_2,
+            CONFLICT,
+            ACCEPTED_3,
+            ACCEPTED_4,
+            ADDED_4_OF_5,
+        ],
+        0,
+        BOTH_4,
+    ),
+    (
+        "sample",
+        "",
+        &[DEPOSIT, OPEN, OPEN, DEPOSIT_NOTHING],
+        &[MISSING, ACCEPTED_1, EXISTS, AMOUNT, ADDED_1_OF_4],
+        0,
+        BOTH_1,
+    ),
+    (
+        "sample",
+        "",
+        &["x\n", NO_APP, NO_TEXT],
+        &[SYNTAX, UNKNOWN, KIND, ADDED_0_OF_3],
+        0,
+        NOTHING,
+    ),
+    (
+        "sample",
+        "",
+        &["\n", OPEN],
+        &[SYNTAX, ACCEPTED_1, ADDED_1_OF_2],
+        0,
+        BOTH_1,
+    ),
+    (
+        "system.json",
+        STRICT,
+        &[OPEN, DEPOSIT_MUCH],
+        &[ACCEPTED_1, ACCEPTED_2, LARGE],
+        8,
+        [(2, 2, 0), (1, 1, 1)],
+    ),
+    (
+        "system.json",
+        NOTES,
+        &[BEGIN],
+        &[ACCEPTED_1, ADDED_NOTE],
+        0,
+        NOTHING,
+    ),
+    (
+        "system.json",
+        OWN_LEADER,
+        &[OPEN],
+        &[OWN_LEADER_FAULT],
+        3,
+        NOTHING,
+    ),
+    (
+        "system.json",
+        "[]",
+        &[OPEN],
+        &[NO_DOCUMENT_FAULT],
+        3,
+        NOTHING,
+    ),
+    ("absent.json", NOTES, &[BEGIN], &[SYSTEM], 4, NOTHING),
+    ("system.json", CYCLE, &[OPEN], &[NOT_BUILT], 15, NOTHING),
+    ("system.json", SNAPSHOTS, &[OPEN], &[NOT_BUILT], 15, NOTHING),
+    ("", "", &[OPEN], &[USAGE], 2, NOTHING),
+    ("-x", "", &[OPEN], &[USAGE], 2, NOTHING),
 ];
 
 #[test]
-fn lines_are_answered_one_by_one(rt: HostRuntime) -> Result<(), Fail> {
+fn systems_are_run(rt: HostRuntime) -> Result<(), Fail> {
     let alloc = rt.alloc();
-    for (input, output, added) in LINES {
-        let (code, bytes, held) = ran(alloc, &["run", "sample"], input, PLAIN)?;
+    for (name, document, input, output, status, after) in RUNS {
+        let (code, bytes, held) = ran(alloc, &["run", name], document, input, PLAIN)?;
         let expected = joined(alloc, output)?;
         assert!(rt; bytes.as_slice() == expected.as_bytes(), "{expected}");
-        let both = [(added, added, 0), (added, added, added)];
-        assert_eq!(rt; (code, held), (0, both), "{expected}");
+        assert_eq!(rt; (code, held), (status, after), "{expected}");
     }
     Ok(())
 }
 
-// A line of so many times 64 bytes, and one more.
+// A line of so many times 64 bytes, and two more.
 fn long_line(alloc: Global, count: usize) -> Result<String, NoMemory> {
     let mut line = String::new(alloc);
     for _ in 0..count {
@@ -308,72 +505,153 @@ fn a_long_line_is_one_line(rt: HostRuntime) -> Result<(), Fail> {
     let alloc = rt.alloc();
     let long = long_line(alloc, 1024)?;
     assert_eq!(rt; long.as_str().len(), 65538);
-    let (code, bytes, _) = ran(alloc, &["run", "sample"], &[long.as_str(), OPEN], PLAIN)?;
-    let expected = joined(alloc, &["{\"error\":\"long\"}\n", FIRST, ONE_OF_TWO])?;
+    let (code, bytes, _) = ran(alloc, &["run", "sample"], "", &[long.as_str(), OPEN], PLAIN)?;
+    let expected = joined(alloc, &["{\"error\":\"long\"}\n", ACCEPTED_1, ADDED_1_OF_2])?;
     assert_eq!(rt; code, 0);
     assert!(rt; bytes.as_slice() == expected.as_bytes());
     Ok(())
 }
 
 #[test]
-fn owners_have_at_most_forty_letters(rt: HostRuntime) -> Result<(), Fail> {
-    let alloc = rt.alloc();
-    let forty = "abcdefghijklmnopqrstuvwxyzabcdefghijklmn";
-    for (more, reply) in [("", FIRST), ("o", SYNTAX)] {
-        let parts = [
-            "{\"app\":\"bank\",\"args\":{\"owner\":\"",
-            forty,
-            more,
-            "\"},\"do\":\"Account.Open\",\"id\":\"00000000000000000000000000000001\"}\n",
-        ];
-        let (_, bytes, _) = ran(alloc, &["run", "sample"], &parts, PLAIN)?;
-        assert!(rt; bytes.as_slice().starts_with(reply.as_bytes()), "{more}");
-    }
-    Ok(())
-}
-
-#[test]
 fn wrong_words_touch_nothing(rt: HostRuntime) -> Result<(), Fail> {
     let alloc = rt.alloc();
-    let cases: [&[&str]; 5] = [
-        &[],
-        &["run"],
-        &["run", "bank"],
-        &["check", "sample"],
-        &["run", "sample", "x"],
-    ];
+    let cases: [&[&str]; 4] = [&[], &["run"], &["check", "sample"], &["run", "sample", "x"]];
     for words in cases {
-        let (code, bytes, held) = ran(alloc, words, &[OPEN], PLAIN)?;
+        let (code, bytes, held) = ran(alloc, words, "", &[OPEN], PLAIN)?;
         assert_eq!(rt; code, 2);
         assert!(rt; bytes.as_slice() == USAGE.as_bytes());
-        assert_eq!(rt; held, [EMPTY, EMPTY]);
+        assert_eq!(rt; held, NOTHING);
     }
     Ok(())
 }
 
-// What a run is given, its status, the lines that are written, and what the stores hold after it.
-const FAULTS: [(Given<'static>, u8, &[&str], [Held; 2]); 9] = [
-    ((&[1], &[], &[], 999, ""), 5, &[INPUT], [EMPTY, EMPTY]),
-    ((&[2], &[], &[], 999, ""), 5, &[FIRST, INPUT], BOTH),
-    ((&[], &[1], &[], 999, ""), 6, &[], [LED, EMPTY]),
-    ((&[], &[3], &[], 999, ""), 6, &[FIRST], BOTH),
-    ((&[], &[], &[], 10, ""), 6, &["{\"first\":1"], [LED, EMPTY]),
-    ((&[], &[], &[1], 999, ""), 7, &[RECORDER], [EMPTY, EMPTY]),
-    ((&[], &[], &[2], 999, ""), 7, &[RECORDER], [EMPTY, EMPTY]),
-    ((&[], &[], &[], 999, "bank"), 15, &[NOT_BUILT], [LED, EMPTY]),
+// What a run of a system with the lines of an account is given, its status, the lines that are written, and what
+// the stores hold after it.
+const FAULTS: [(&str, Given<'static>, u8, &[&str], [Held; 2]); 12] = [
     (
-        (&[], &[], &[], 999, "audit"),
+        "sample",
+        Given {
+            reads: &[1],
+            ..PLAIN
+        },
+        5,
+        &[INPUT],
+        NOTHING,
+    ),
+    (
+        "sample",
+        Given {
+            reads: &[2],
+            ..PLAIN
+        },
+        5,
+        &[ACCEPTED_1, INPUT],
+        BOTH_1,
+    ),
+    (
+        "sample",
+        Given {
+            writes: &[1],
+            ..PLAIN
+        },
+        6,
+        &[],
+        [LED, EMPTY],
+    ),
+    (
+        "sample",
+        Given {
+            writes: &[3],
+            ..PLAIN
+        },
+        6,
+        &[ACCEPTED_1],
+        BOTH_1,
+    ),
+    (
+        "sample",
+        Given { room: 10, ..PLAIN },
+        6,
+        &["{\"first\":1"],
+        [LED, EMPTY],
+    ),
+    (
+        "sample",
+        Given {
+            opens: &[1],
+            ..PLAIN
+        },
+        7,
+        &[RECORDER],
+        NOTHING,
+    ),
+    (
+        "sample",
+        Given {
+            opens: &[2],
+            ..PLAIN
+        },
+        7,
+        &[RECORDER],
+        NOTHING,
+    ),
+    (
+        "sample",
+        Given {
+            occupied: "bank",
+            ..PLAIN
+        },
+        15,
+        &[NOT_BUILT],
+        [LED, EMPTY],
+    ),
+    (
+        "sample",
+        Given {
+            occupied: "audit",
+            ..PLAIN
+        },
         15,
         &[NOT_BUILT],
         [EMPTY, LED],
+    ),
+    (
+        "system.json",
+        Given {
+            documents: &[1],
+            ..PLAIN
+        },
+        4,
+        &[SYSTEM],
+        NOTHING,
+    ),
+    (
+        "system.json",
+        Given {
+            documents: &[2],
+            ..PLAIN
+        },
+        4,
+        &[SYSTEM],
+        NOTHING,
+    ),
+    (
+        "sample",
+        Given {
+            documents: &[1],
+            ..PLAIN
+        },
+        0,
+        &[ACCEPTED_1, ADDED_1_OF_1],
+        BOTH_1,
     ),
 ];
 
 #[test]
 fn faults_have_their_statuses(rt: HostRuntime) -> Result<(), Fail> {
     let alloc = rt.alloc();
-    for (given, status, output, after) in FAULTS {
-        let (code, bytes, held) = ran(alloc, &["run", "sample"], &[OPEN], given)?;
+    for (name, given, status, output, after) in FAULTS {
+        let (code, bytes, held) = ran(alloc, &["run", name], STRICT, &[OPEN], given)?;
         let expected = joined(alloc, output)?;
         assert!(rt; bytes.as_slice() == expected.as_bytes(), "{expected}");
         assert_eq!(rt; (code, held), (status, after), "{expected}");
@@ -381,351 +659,20 @@ fn faults_have_their_statuses(rt: HostRuntime) -> Result<(), Fail> {
     Ok(())
 }
 
-// A refusal with its names and numbers.
-fn told_refusal(alloc: Global, names: [&str; 3], numbers: [u64; 3]) -> Result<String, NoMemory> {
-    let [app, leader, code] = names;
-    let [id, recordings, rule] = numbers;
-    Ok(format!(in alloc; "refused {app} {leader} {id} {recordings} {code} {rule}")?)
-}
-
-// Another fault with its name and numbers.
-fn told_stop(alloc: Global, kind: &str, app: &Text, numbers: &[u64]) -> Result<String, NoMemory> {
-    let app = app.as_str();
-    let mut text = format!(in alloc; "{kind} {app}")?;
-    for number in numbers {
-        write!(text, " {number}")?;
-    }
-    Ok(text)
-}
-
-fn told_fault(alloc: Global, fault: &RunFault) -> Result<String, NoMemory> {
-    match fault {
-        RunFault::Refused {
-            app,
-            leader,
-            id,
-            recordings,
-            code,
-            rule,
-        } => told_refusal(
-            alloc,
-            [app.as_str(), leader.as_str(), code.as_str()],
-            [*id, *recordings, *rule],
-        ),
-        RunFault::Turns { app, turns } => told_stop(alloc, "turns", app, &[*turns]),
-        RunFault::Unreadable { app, id } => told_stop(alloc, "unreadable", app, &[*id]),
-        RunFault::Full {
-            app,
-            last,
-            capacity,
-        } => told_stop(alloc, "full", app, &[*last, *capacity]),
-        RunFault::Recorder => Ok(String::from_str(alloc, "recorder")?),
-        RunFault::NoMemory => Ok(String::from_str(alloc, "memory")?),
-    }
-}
-
-// What was made of a notification, with its names and numbers.
-fn told(alloc: Global, answer: &Result<Processed, RunFault>) -> Result<String, NoMemory> {
-    match answer {
-        Ok(Processed::Recorded { first, last }) => {
-            Ok(format!(in alloc; "recorded {first} {last}")?)
-        }
-        Ok(Processed::Skipped { tracked }) => Ok(format!(in alloc; "skipped {tracked}")?),
-        Ok(Processed::Gap { tracked }) => Ok(format!(in alloc; "gap {tracked}")?),
-        Err(fault) => told_fault(alloc, fault),
-    }
-}
-
-// Lets audit process a notification of the bank: the first event of an originator.
-fn processed(
-    alloc: Global,
-    audit: &mut Application<MemoryRecorder>,
-    id: u8,
-    topic: &str,
-    originator: u128,
-) -> Result<Result<Processed, RunFault>, NoMemory> {
-    let bank = Text::from_str(alloc, "bank")?;
-    let notification = Notification {
-        id: u64::from(id),
-        event: event(alloc, topic, originator)?,
-    };
-    Ok(audit.process(alloc, &bank, &notification, &mut clock(alloc, &[])?))
-}
-
-// Audit, which may hold so many events and has so many turns. It has recorded the first so many
-// accounts of the bank.
-fn audit_after(
-    alloc: Global,
-    capacity: u8,
-    turns: u64,
-    count: u8,
-) -> Result<Application<MemoryRecorder>, NoMemory> {
-    let mut audit = Application {
-        name: Text::from_str(alloc, "audit")?,
-        recorder: MemoryRecorder::new(alloc, u64::from(capacity)),
-        turns,
-        used: 0,
-    };
-    for id in 0..count {
-        let _ = processed(alloc, &mut audit, id + 1, OPENED, u128::from(id) + 1)?;
-    }
-    Ok(audit)
-}
-
-// The capacity and the turns of audit, how many accounts it has recorded, a notification's id, topic
-// and originator, what is made of it, and how many recordings audit has then.
-const NOTIFICATIONS: [((u8, u64, u8), (u8, &str, u128), &str, u64); 11] = [
-    ((9, 9, 0), (2, OPENED, 2), "gap 0", 0),
-    ((9, 9, 0), (1, OPENED, 1), "recorded 1 1", 1),
-    ((9, 9, 1), (1, OPENED, 1), "skipped 1", 1),
-    ((9, 9, 1), (3, OPENED, 3), "gap 1", 1),
-    ((9, 9, 1), (2, OPENED, 2), "recorded 2 2", 2),
-    ((9, 9, 1), (2, CLOSED, 2), "unreadable bank 2", 1),
-    (
-        (9, 9, 1),
-        (2, OPENED, 1),
-        "refused audit bank 2 1 exists 1",
-        1,
-    ),
-    ((9, 0, 0), (1, OPENED, 1), "turns audit 0", 0),
-    ((9, 1, 1), (2, OPENED, 2), "turns audit 1", 1),
-    ((0, 9, 0), (1, OPENED, 1), "full audit 0 0", 0),
-    ((1, 9, 1), (2, OPENED, 2), "full audit 1 1", 1),
+const ENDS: [(End, u8); 7] = [
+    (End::Memory, 1),
+    (End::Usage, 2),
+    (End::System, 4),
+    (End::Input, 5),
+    (End::Recorder, 7),
+    (End::Over, 13),
+    (End::NotBuilt, 15),
 ];
 
 #[test]
-fn notifications_are_recorded_once_and_in_order(rt: HostRuntime) -> Result<(), Fail> {
-    let alloc = rt.alloc();
-    let bank = Text::from_str(alloc, "bank")?;
-    for ((capacity, turns, count), (id, topic, account), expected, after) in NOTIFICATIONS {
-        let mut audit = audit_after(alloc, capacity, turns, count)?;
-        let answer = processed(alloc, &mut audit, id, topic, account)?;
-        let text = told(alloc, &answer)?;
-        let held = held(&mut audit.recorder, &bank)?;
-        assert_eq!(rt; text.as_str(), expected);
-        assert_eq!(rt; (held, audit.used), ((after, after, after), after));
-    }
-    Ok(())
-}
-
-// The bank with two accounts, and audit without recordings, which has so many turns.
-fn applications(
-    alloc: Global,
-    turns: u64,
-) -> Result<Option<Applications<MemoryRecorder>>, NoMemory> {
-    let mut history = Recordings::new(alloc);
-    history.push(recording(alloc, OPENED, 1)?)?;
-    history.push(recording(alloc, OPENED, 2)?)?;
-    if !is_formed(&history) {
-        return Ok(None);
-    }
-    let bank = Application {
-        name: Text::from_str(alloc, "bank")?,
-        recorder: MemoryRecorder::with(alloc, history, Snapshots::new(alloc), 9)?,
-        turns,
-        used: 0,
-    };
-    let audit = audit_after(alloc, 9, turns, 0)?;
-    Ok(Some(Applications { bank, audit }))
-}
-
-// Drains the followers of these leaders, with a clock that reads 10 and 20, and then 0.
-fn drained(
-    alloc: Global,
-    apps: &mut Applications<MemoryRecorder>,
-    leaders: &[&str],
-) -> Result<String, NoMemory> {
-    let mut prompted = Vec::new(alloc);
-    for leader in leaders {
-        prompted.push(Text::from_str(alloc, leader)?)?;
-    }
-    let mut clock = clock(alloc, &[10, 20])?;
-    match apps.drain(alloc, &prompted, &mut clock) {
-        Ok(()) => Ok(String::from_str(alloc, "drained")?),
-        Err(fault) => told_fault(alloc, &fault),
-    }
-}
-
-// Whether a recording starts the statement of the account with this number, which is the bank's
-// notification with the same number, at this moment, in this state.
-fn starts_statement(recording: &Recording, number: u64, micros: i64, state: &str) -> bool {
-    let Cause::Notification { leader, id } = &recording.cause else {
-        return false;
-    };
-    let [event] = recording.events.as_slice() else {
-        return false;
-    };
-    leader.as_str() == "bank"
-        && *id == number
-        && recording.at.micros() == micros
-        && event.originator_id == Uuid::from_u128(u128::from(number))
-        && event.originator_version == 1
-        && event.topic.as_str() == "Statement.Started"
-        && event.state.as_slice() == state.as_bytes()
-}
-
-// The turns of audit, the leaders whose followers are drained, how it ends, and how many recordings
-// audit has then.
-const DRAINS: [(u64, &[&str], &str, u64); 6] = [
-    (9, &["bank"], "drained", 2),
-    (9, &["bank", "audit", "bank"], "drained", 2),
-    (2, &["bank"], "drained", 2),
-    (1, &["bank"], "turns audit 1", 1),
-    (9, &[], "drained", 0),
-    (9, &["audit"], "drained", 0),
-];
-
-const STARTED_AT_10: &str =
-    "{\"originator_topic\":\"Statement\",\"timestamp\":{\"_data_\":\"1970-01-01T00:00:00.000010+00:00\",\"_type_\":\"datetime_iso\"}}";
-
-const STARTED_AT_20: &str =
-    "{\"originator_topic\":\"Statement\",\"timestamp\":{\"_data_\":\"1970-01-01T00:00:00.000020+00:00\",\"_type_\":\"datetime_iso\"}}";
-
-#[test]
-fn followers_are_drained(rt: HostRuntime) -> Result<(), Fail> {
-    let alloc = rt.alloc();
-    let name = Text::from_str(alloc, "bank")?;
-    for (turns, leaders, expected, count) in DRAINS {
-        let mut apps = applications(alloc, turns)?.ok_or("not formed")?;
-        let text = drained(alloc, &mut apps, leaders)?;
-        assert_eq!(rt; text.as_str(), expected);
-        let Applications {
-            mut bank,
-            mut audit,
-        } = apps;
-        assert_eq!(rt; held(&mut bank.recorder, &name)?, (2, 2, 0));
-        assert_eq!(rt; held(&mut audit.recorder, &name)?, (count, count, count));
-        assert_eq!(rt; audit.used, count);
-        let history = into_history(audit);
-        let wanted = [(1, 10, STARTED_AT_10), (2, 20, STARTED_AT_20)];
-        for (recording, (number, micros, state)) in history.as_slice().iter().zip(wanted) {
-            assert!(rt;
-                starts_statement(recording, number, micros, state),
-                "{number}"
-            );
-        }
-    }
-    Ok(())
-}
-
-fn into_history(app: Application<MemoryRecorder>) -> Recordings {
-    let Application {
-        name: _,
-        recorder,
-        turns: _,
-        used: _,
-    } = app;
-    recorder.into_parts().0
-}
-
-const OK_END: &str = "{\"added\":{\"audit\":2,\"bank\":3},\"end\":\"ok\",\"lines\":7}";
-
-const REFUSED_END: &str =
-    "{\"app\":\"audit\",\"code\":\"exists\",\"end\":\"refused\",\"id\":4,\"leader\":\"bank\",\"recordings\":5,\"rule\":1}";
-
-const TURNS_END: &str = "{\"app\":\"audit\",\"end\":\"turns\",\"turns\":6}";
-
-const UNREADABLE_END: &str = "{\"app\":\"bank\",\"end\":\"unreadable\",\"id\":8}";
-
-const FULL_END: &str = "{\"app\":\"audit\",\"capacity\":10,\"end\":\"full\",\"last\":9}";
-
-fn ok_end(alloc: Global) -> Result<End, NoMemory> {
-    let mut added = Counts::new(alloc);
-    added.push((Text::from_str(alloc, "audit")?, 2))?;
-    added.push((Text::from_str(alloc, "bank")?, 3))?;
-    Ok(End::Ok { added, lines: 7 })
-}
-
-fn refused_end(alloc: Global) -> Result<End, NoMemory> {
-    Ok(End::Refused {
-        app: Text::from_str(alloc, "audit")?,
-        leader: Text::from_str(alloc, "bank")?,
-        id: 4,
-        recordings: 5,
-        code: Text::from_str(alloc, "exists")?,
-        rule: 1,
-    })
-}
-
-// Ends with names and numbers, their texts and the numbers of their statuses.
-fn named_ends(alloc: Global) -> Result<[(End, &'static str, u8); 5], NoMemory> {
-    let turns = End::Turns {
-        app: Text::from_str(alloc, "audit")?,
-        turns: 6,
-    };
-    let unreadable = End::Unreadable {
-        app: Text::from_str(alloc, "bank")?,
-        id: 8,
-    };
-    let full = End::Full {
-        app: Text::from_str(alloc, "audit")?,
-        last: 9,
-        capacity: 10,
-    };
-    Ok([
-        (ok_end(alloc)?, OK_END, 0),
-        (refused_end(alloc)?, REFUSED_END, 8),
-        (turns, TURNS_END, 9),
-        (unreadable, UNREADABLE_END, 11),
-        (full, FULL_END, 12),
-    ])
-}
-
-const FIXED_ENDS: [(End, &str, u8); 6] = [
-    (End::Memory, "{\"end\":\"memory\"}", 1),
-    (End::Usage, "{\"end\":\"usage\"}", 2),
-    (End::Input, "{\"end\":\"input\"}", 5),
-    (End::Recorder, "{\"end\":\"recorder\"}", 7),
-    (End::Over, "{\"end\":\"over\"}", 13),
-    (End::NotBuilt, "{\"end\":\"not-built\"}", 15),
-];
-
-#[test]
-fn ends_have_their_texts(rt: HostRuntime) -> Result<(), Fail> {
-    let alloc = rt.alloc();
-    for (end, expected, code) in named_ends(alloc)?.into_iter().chain(FIXED_ENDS) {
-        let text = end_text(alloc, &end)?;
-        assert!(rt; text.as_slice() == expected.as_bytes(), "{expected}");
+fn statuses_have_their_numbers(rt: HostRuntime) {
+    for (end, code) in ENDS {
         assert_eq!(rt; Status::from(end).code(), code);
     }
     assert_eq!(rt; Status::Sink.code(), 6);
-    Ok(())
-}
-
-#[test]
-fn replies_have_their_texts(rt: HostRuntime) -> Result<(), Fail> {
-    let alloc = rt.alloc();
-    let accepted = Reply::Accepted {
-        recording: 2,
-        first: 3,
-        last: 4,
-        version: 5,
-    };
-    let code = Text::from_str(alloc, "exists")?;
-    let app = Text::from_str(alloc, "bank")?;
-    let cases = [
-        (
-            accepted,
-            "{\"first\":3,\"last\":4,\"ok\":\"do\",\"recording\":2,\"version\":5}",
-        ),
-        (
-            Reply::Refused { code },
-            "{\"code\":\"exists\",\"error\":\"refused\"}",
-        ),
-        (Reply::Syntax, "{\"error\":\"syntax\"}"),
-        (Reply::Long, "{\"error\":\"long\"}"),
-        (
-            Reply::Conflict { latest: 6 },
-            "{\"error\":\"conflict\",\"latest\":6}",
-        ),
-        (
-            Reply::Unreadable { app, id: 7 },
-            "{\"app\":\"bank\",\"error\":\"unreadable\",\"id\":7}",
-        ),
-    ];
-    for (reply, expected) in cases {
-        let text = reply_text(alloc, &reply)?;
-        assert!(rt; text.as_slice() == expected.as_bytes(), "{expected}");
-    }
-    Ok(())
 }

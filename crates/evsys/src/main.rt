@@ -1,7 +1,7 @@
 //! The program: it makes the real objects, and hands them to the top call.
 #![tactic(auto)]
 
-use es_io::{MemoryDocument, StdSink, StdSource, SystemClock};
+use es_io::{FileDocument, StdSink, StdSource, SystemClock};
 use es_memory::MemoryStores;
 use es_model::List;
 use es_top::evsys_single;
@@ -23,7 +23,7 @@ fn main(rt: HostRuntime) -> ExitCode {
     let alloc = rt.alloc();
     // Words that can't be read are of no form, like none at all.
     let words = words_of(&rt, alloc).unwrap_or(Vec::new(alloc));
-    let mut system = MemoryDocument::new(alloc, List::new(alloc), List::new(alloc));
+    let mut system = FileDocument::new(&rt);
     let mut lines = StdSource::new(&rt);
     let mut out = StdSink::new(&rt);
     let mut stores = MemoryStores::new(alloc, List::new(alloc), List::new(alloc));

@@ -1,0 +1,353 @@
+-- Applications that are opened and closed one after another.
+use Rattle.std.proofs.Common.{◌≡◌, ◌⊎◌, ◌<◌, ◌≤◌, ◌+◌, inl, inr, ℕ, zero, suc, Bool, true, false, ltb, ◌||◌, List, [], ◌∷◌, ◌++◌, length, map, drop, Contains, slice_get, slice_set, get_or, if◌then◌else◌, Option, Some, None, IfSome, refl, sym, ap, ◌∙◌, subst, append_assoc, append-nil, arith}
+use Rattle.std.proofs.lemmas.Bool.Decides.{Decides-ltb}
+use Rattle.std.proofs.lemmas.List.{map-append, length-map}
+use Rattle.std.proofs.lemmas.Option.{slice_get-get_or}
+use Rattle.std.proofs.Math.Seq.{drop-cons}
+use Rattle.std.specs.Str.{bytes_eq}
+use Rattle.es_model.specs.declared.declaration.App.{App}
+use Rattle.es_model.specs.declared.event.Recording.{Recording}
+use Rattle.es_model.specs.declared.snapshot.Snapshot.{Snapshot}
+use Rattle.es_model.specs.Causes.{Rose}
+use Rattle.es_model.specs.History.{Histories}
+use Rattle.es_model.specs.Values.{Name}
+use Rattle.es_io.specs.Readings.{Readings}
+use Rattle.es_recorder.specs.Held.{put, SameElsewhere, ClosesTold, Closes}
+use Rattle.es_process.specs.declared.application.Application.{Application}
+use Rattle.es_process.specs.Answer.{Options}
+use Rattle.es_process.specs.SingleThread.{is_among}
+use Rattle.es_process.specs.Standing.{State, HoldsOne, Holds, HoldHistories, AreDistinct, IsSame, names_in, faults_at, count_of, Later}
+use Rattle.es_process.proofs.AmongLemmas.{among-contains, contains-among, contains-last, is-same, same-name, put-cases, put-here, put-other, same-or-not}
+use Rattle.es_process.proofs.HoldsLemmas.{contains-at, name-at, same-one, later-then, later-set}
+use Rattle.es_process.proofs.SetLemmas.{get-cases, map-set}
+use Rattle.es_single.specs.Limits.{limits}
+use Rattle.es_single.specs.Runs.{state_of, AreEmpty}
+use Rattle.es_top.specs.Opened.{marked, HoldElsewhere, TellEach, AreHandedOut, AreFresh, SomeFailed, IsOpened, AreOpened, IsFrontOfNames, IsOccupied}
+use Rattle.es_top.specs.Top.{IsLeft}
+
+-- names
+
+differ_false : (a b : Name) → (a ≡ b → ⊥) → bytes_eq a b ≡ false
+differ_false a b differ = by (bytes_eq a b) refl
+  where
+    by : (t : Bool) → bytes_eq a b ≡ t → t ≡ false
+    by true is = absurd (differ (same-name a b is))
+    by false is = refl
+
+-- another name than the last is among some and the last where it is among them
+among_others : (names : List Name) (m n : Name) → (n ≡ m → ⊥) → is_among n (names ++ m ∷ []) ≡ is_among n names
+among_others [] m n differ = ap (λ b. b || false) (differ_false m n (λ same. differ (sym same)))
+among_others (x ∷ names) m n differ = ap (λ b. bytes_eq x n || b) (among_others names m n differ)
+
+-- something is put at a last name, or a first one
+marks_last : (out now : Name → Bool) (names : List Name) (m : Name) (v : Bool) (n : Name) → now n ≡ marked out names v n → put now m v n ≡ marked out (names ++ m ∷ []) v n
+marks_last out now names m v n before = by (same-or-not n m)
+  where
+    by : (n ≡ m) ⊎ (n ≡ m → ⊥) → put now m v n ≡ marked out (names ++ m ∷ []) v n
+    by (inl same) =
+        let here : is_among n (names ++ m ∷ []) ≡ true = contains-among n (names ++ m ∷ []) (subst (Contains (names ++ m ∷ [])) (sym same) (contains-last names m)) in
+        ap (put now m v) same ∙ put-here now m v ∙ sym (λ i. if here i then v else out n)
+    by (inr differ) = put-other now m v n differ ∙ before ∙ sym (λ i. if among_others names m n differ i then v else out n)
+
+marks_first : (out now : Name → Bool) (names : List Name) (m : Name) (v : Bool) (n : Name) → now n ≡ marked out names v n → put now m v n ≡ marked out (m ∷ names) v n
+marks_first out now names m v n before = by (same-or-not n m)
+  where
+    by : (n ≡ m) ⊎ (n ≡ m → ⊥) → put now m v n ≡ marked out (m ∷ names) v n
+    by (inl same) = ap (put now m v) same ∙ put-here now m v ∙ sym (λ i. if is-same m n (sym same) i || is_among n names then v else out n)
+    by (inr differ) = put-other now m v n differ ∙ before ∙ sym (λ i. if differ_false m n (λ same. differ (sym same)) i || is_among n names then v else out n)
+
+-- where a mark isn't there, the name isn't marked, and wasn't before
+unmarked : (b before : Bool) → (if b then true else before) ≡ false → (b ≡ false) × (before ≡ false)
+unmarked true before is = absurd (cc is)
+unmarked false before is = (refl, is)
+
+get-front : {A : Type 0} (xs ys : List A) (i : ℕ) (x : A) → slice_get xs i ≡ Some x → slice_get (xs ++ ys) i ≡ Some x
+get-front [] ys i x at = absurd (cc at)
+get-front (z ∷ xs) ys zero x at = at
+get-front (z ∷ xs) ys (suc i) x at = get-front xs ys i x at
+
+pub distinct_front : (names all : List Name) → IsFrontOfNames names all → AreDistinct all → AreDistinct names
+distinct_front names all (rest, is) distinct i j n at there =
+    let whole : AreDistinct (names ++ rest) = subst AreDistinct (sym is) distinct in
+    whole i j n (get-front names rest i n at) (get-front names rest j n there)
+
+distinct_rest : (m : Name) (names : List Name) → AreDistinct (m ∷ names) → AreDistinct names
+distinct_rest m names distinct i j n at there = let same : suc i ≡ suc j = distinct (suc i) (suc j) n at there in (let e : i ≡ j = omega (arith, same) in e)
+
+distinct_back : (front names : List Name) → AreDistinct (front ++ names) → AreDistinct names
+distinct_back [] names distinct = distinct
+distinct_back (m ∷ front) names distinct = distinct_back front names (distinct_rest m (front ++ names) distinct)
+
+abbrev contains_get : {A : Type 0} (xs : List A) (x : A) → Contains xs x → (i : ℕ) × (slice_get xs i ≡ Some x)
+contains_get xs x so = (so.0, slice_get-get_or xs so.0 x so.1 ∙ ap Some so.2)
+
+first_apart : (m : Name) (names : List Name) → AreDistinct (m ∷ names) → is_among m names ≡ false
+first_apart m names distinct = by (is_among m names) refl
+  where
+    by : (b : Bool) → is_among m names ≡ b → b ≡ false
+    by true is = absurd (let again = contains_get names m (among-contains m names is) in (let same : 0 ≡ suc again.0 = distinct 0 (suc again.0) m refl again.1 in (omega (arith, same))))
+    by false is = refl
+
+-- each of some items, and a last one
+get-push : {A : Type 0} (P : A → Type 0) (xs : List A) (x : A) → ((i : ℕ) (y : A) → slice_get xs i ≡ Some y → P y) → P x → (i : ℕ) (y : A) → slice_get (xs ++ x ∷ []) i ≡ Some y → P y
+get-push P [] x each last zero y at = subst P (let is : x ≡ y = cc in is) last
+get-push P [] x each last (suc i) y at = absurd (cc at)
+get-push P (z ∷ xs) x each last zero y at = each 0 y at
+get-push P (z ∷ xs) x each last (suc i) y at = get-push P xs x (λ j. each (suc j)) last i y at
+
+get-middle : {A : Type 0} (xs : List A) (x : A) (ys : List A) → slice_get (xs ++ x ∷ ys) (length xs) ≡ Some x
+get-middle [] x ys = refl
+get-middle (z ∷ xs) x ys = get-middle xs x ys
+
+pub names_length : {R : Type 0} (apps : List (Application R)) → length (names_in apps) ≡ length apps
+names_length apps = length-map apps (λ a. a.name)
+
+-- names of applications that are opened in order
+pub names_more : (apps : List App) (i : ℕ) (a : App) (done : List Name) (m : Name) → i < length apps → a ≡ get_or apps i a → m ≡ a.name → done ++ map (λ (b : App). b.name) (drop i apps) ≡ map (λ (b : App). b.name) apps
+    → (done ++ m ∷ []) ++ map (λ (b : App). b.name) (drop (i + 1) apps) ≡ map (λ (b : App). b.name) apps
+names_more apps i a done m within is named before =
+    let place : suc i ≡ i + 1 = omega arith in
+    let next : drop i apps ≡ a ∷ drop (i + 1) apps = drop-cons apps i a within ∙ (λ k. sym is k ∷ drop (place k) apps) in
+    append_assoc done (m ∷ []) (map (λ (b : App). b.name) (drop (i + 1) apps))
+    ∙ ap (λ (n : Name). done ++ n ∷ map (λ (b : App). b.name) (drop (i + 1) apps)) named
+    ∙ ap (λ (xs : List App). done ++ map (λ (b : App). b.name) xs) (sym next)
+    ∙ before
+
+-- the stores after one more was opened
+elsewhere_more : {A : Type 0} (names : List Name) (m : Name) (h : Name → A) (mid now : Option (Name → A)) → HoldElsewhere names h mid → SameElsewhere m mid now → HoldElsewhere (names ++ m ∷ []) h now
+elsewhere_more names m h None now x same = absurd (let none : None ≡ Some x.things = x.told in cc none)
+elsewhere_more names m h (Some k) None x same = absurd same
+elsewhere_more {A} names m h (Some k) (Some q) x same = record {
+  things = q;
+  told = refl;
+  same = λ n none. apart n none (same-or-not n m);
+}
+  where
+    known : k ≡ x.things
+    known = let told : Some k ≡ Some x.things = x.told in (let is : k ≡ x.things = cc in is)
+
+    apart : (n : Name) → is_among n (names ++ m ∷ []) ≡ false → (n ≡ m) ⊎ (n ≡ m → ⊥) → q n ≡ h n
+    apart n none (inl is) =
+        let here : is_among n (names ++ m ∷ []) ≡ true = contains-among n (names ++ m ∷ []) (subst (Contains (names ++ m ∷ [])) (sym is) (contains-last names m)) in
+        absurd (let clash : false ≡ true = sym none ∙ here in cc clash)
+    apart n none (inr differ) =
+        sym (put-other q m (k m) n differ) ∙ ap (λ (f : Name → A). f n) (same (k m)) ∙ put-other k m (k m) n differ ∙ ap (λ (f : Name → A). f n) known ∙ x.same n (sym (among_others names m n differ) ∙ none)
+
+-- what its recorder tells
+opened_told : {A : Type 0} (names : List Name) (m : Name) (h : Name → A) (mid : Option (Name → A)) (u : Option A) → HoldElsewhere names h mid → is_among m names ≡ false → IfSome mid (λ k. u ≡ Some (k m)) → u ≡ Some (h m)
+opened_told names m h None u x none told = absurd (let nothing : None ≡ Some x.things = x.told in cc nothing)
+opened_told {A} names m h (Some k) u x none told =
+    let known : k ≡ x.things = (let is : Some k ≡ Some x.things = x.told in (let same : k ≡ x.things = cc in same)) in
+    told ∙ ap (λ (f : Name → A). Some (f m)) known ∙ ap Some (x.same m none)
+
+closes_at : {A : Type 0} (out : Bool) (mid : Option (Name → A)) (k : Name → A) (name : Name) (x : A) (v : Option A) (new : Option (Name → A)) → out ≡ true → mid ≡ Some k → v ≡ Some x → ClosesTold out mid name v new → new ≡ Some (put k name x)
+closes_at out mid k name x v new is told known closes =
+    subst (λ b. Closes b k name x new) is (subst (λ o. ClosesTold out (Some k) name o new) known (subst (λ o. ClosesTold out o name v new) told closes))
+
+nil_of : {A : Type 0} (xs : List A) → length xs ≡ 0 → xs ≡ []
+nil_of [] none = refl
+nil_of (x ∷ xs) none = absurd (omega (arith, none))
+
+pub names_last : {R : Type 0} (apps : List (Application R)) (a : Application R) → names_in (apps ++ a ∷ []) ≡ names_in apps ++ a.name ∷ []
+names_last {R} apps a = map-append (λ (b : Application R). b.name) apps (a ∷ [])
+
+-- what some applications leave in the stores, where those left over are still open
+abbrev pub LeaveOpen : {A R : Type 0} → (R → Option A) → (all left : List (Application R)) → (Name → Bool) → (held now : Option (Name → A)) → Type 0
+LeaveOpen {A} {R} tell all left out held now = (base q : Name → A) → AreDistinct (names_in all) → ((n : Name) → is_among n (names_in all) ≡ true → out n ≡ true) → HoldElsewhere (names_in all) base held → TellEach tell q all
+    → ((n : Name) → is_among n (names_in all) ≡ false → q n ≡ base n) → HoldElsewhere (names_in left) q now
+
+leave_none : {A R : Type 0} (tell : R → Option A) (all : List (Application R)) (out : Name → Bool) (held : Option (Name → A)) → LeaveOpen tell all all out held held
+leave_none tell all out held = λ base q distinct outs elsewhere tells others. record { things = elsewhere.things; told = elsewhere.told; same = λ n none. elsewhere.same n none ∙ sym (others n none) }
+
+leave_all : {A R : Type 0} (tell : R → Option A) (all left : List (Application R)) (out : Name → Bool) (held now : Option (Name → A)) → left ≡ [] → LeaveOpen tell all left out held now → (base q : Name → A) → AreDistinct (names_in all)
+    → ((n : Name) → is_among n (names_in all) ≡ true → out n ≡ true) → HoldElsewhere (names_in all) base held → TellEach tell q all → ((n : Name) → is_among n (names_in all) ≡ false → q n ≡ base n) → now ≡ Some q
+leave_all {A} {R} tell all left out held now none leaves base q distinct outs elsewhere tells others =
+    let y = leaves base q distinct outs elsewhere tells others in
+    y.told ∙ ap Some (λ i n. y.same n (ap (λ (l : List (Application R)). is_among n (names_in l)) none) i)
+
+module _ {R : Type 0} (capacity faults : R → ℕ) where
+  -- one more was opened
+  module _ (out middle : Name → Bool) (apps : List (Application R)) (a : Application R) (name : Name) (x : AreOpened capacity faults out middle apps) (named : a.name ≡ name) (was_in : middle name ≡ false) where
+    own_was_in : middle a.name ≡ false
+    own_was_in = ap middle named ∙ was_in
+
+    apart : (is_among a.name (names_in apps) ≡ false) × (out a.name ≡ false)
+    apart = unmarked (is_among a.name (names_in apps)) (out a.name) (sym (x.marks a.name) ∙ own_was_in)
+
+    pub opened_more : (last : Name → Bool) → capacity a.recorder ≡ limits.capacity → a.turns ≡ limits.turns → a.used ≡ 0 → faults a.recorder ≡ 0 → ((n : Name) → last n ≡ put middle name true n) → AreOpened capacity faults out last (apps ++ a ∷ [])
+    opened_more last room turns unused fresh marks = record {
+      each = get-push (IsOpened capacity faults) apps a x.each (record { room = room; turns = turns; unused = unused; fresh = fresh });
+      marks = λ n. marks n ∙ ap (λ m. put middle m true n) (sym named) ∙ marks_last out middle (names_in apps) a.name true n (x.marks n) ∙ ap (λ (names : List Name). marked out names true n) (sym (names_last apps a));
+      were_in = λ n there. by n (ap (is_among n) (sym (names_last apps a)) ∙ there) (same-or-not n a.name);
+    }
+      where
+        by : (n : Name) → is_among n (names_in apps ++ a.name ∷ []) ≡ true → (n ≡ a.name) ⊎ (n ≡ a.name → ⊥) → out n ≡ false
+        by n there (inl is) = ap out is ∙ apart.1
+        by n there (inr differ) = x.were_in n (sym (among_others (names_in apps) a.name n differ) ∙ there)
+
+    pub handed_more : {A : Type 0} (tell : R → Option A) (held mid now : Option (Name → A)) → AreHandedOut tell held mid apps → IfSome mid (λ q. tell a.recorder ≡ Some (q name)) → SameElsewhere name mid now → AreHandedOut tell held now (apps ++ a ∷ [])
+    handed_more {A} tell held mid now y told same = record {
+      each = λ q known.
+          get-push (λ (b : Application R). tell b.recorder ≡ Some (q b.name)) apps a (y.each q known)
+          (opened_told (names_in apps) a.name q mid (tell a.recorder) (y.elsewhere q known) apart.0 (subst (λ n. IfSome mid (λ k. tell a.recorder ≡ Some (k n))) (sym named) told));
+      elsewhere = λ q known.
+          subst (λ (names : List Name). HoldElsewhere names q now) (sym (names_last apps a)) (elsewhere_more (names_in apps) a.name q mid now (y.elsewhere q known) (subst (λ n. SameElsewhere n mid now) (sym named) same));
+    }
+
+  -- all were opened
+  module _ (out last : Name → Bool) (apps : List (Application R)) (x : AreOpened capacity faults out last apps) where
+    pub opened_holds : (history : R → Option (List Recording)) (held now : Option Histories) → AreHandedOut history held now apps → (readings : Option Readings) (r : Readings) (h : Histories) → readings ≡ Some r → held ≡ Some h
+        → Holds history capacity h limits apps readings (state_of h r)
+    opened_holds history held now y readings r h reads known = record {
+      each = λ i a at. let one = x.each i a at in record { told = y.each h known i a at; room = one.room; turns = one.turns; counted = one.unused };
+      clock = reads;
+      elsewhere = λ n none. refl;
+    }
+
+    pub opened_fresh : AreFresh faults apps
+    opened_fresh i = by (slice_get apps i) refl
+      where
+        by : (o : Option (Application R)) → slice_get apps i ≡ o → count_of faults o ≡ 0
+        by None at = refl
+        by (Some a) at = (x.each i a at).fresh
+
+    marked_out : (n : Name) → is_among n (names_in apps) ≡ true → last n ≡ true
+    marked_out n there = x.marks n ∙ (λ i. if there i then true else out n)
+
+    -- and closed again
+    pub opened_left : {A : Type 0} (tell : R → Option A) (held now : Option (Name → A)) → AreHandedOut tell held now apps → (new : Option (Name → A))
+        → ((base q : Name → A) → AreDistinct (names_in apps) → ((n : Name) → is_among n (names_in apps) ≡ true → last n ≡ true) → HoldElsewhere (names_in apps) base now → TellEach tell q apps
+        → ((n : Name) → is_among n (names_in apps) ≡ false → q n ≡ base n) → new ≡ Some q)
+        → AreDistinct (names_in apps) → IsLeft held new
+    opened_left {A} tell held now y new closed distinct = by held refl
+      where
+        by : (o : Option (Name → A)) → held ≡ o → IsLeft o new
+        by None known = tt
+        by (Some q) known = closed q q distinct marked_out (y.elsewhere q known) (y.each q known) (λ n none. refl)
+
+module _ {R : Type 0} (history : R → Option (List Recording)) (snapshots : R → Option (List Snapshot)) (faults : R → ℕ) where
+  -- some of all were closed, the last ones first
+  pub record Closing (all left : List (Application R)) (held now : Option Histories) (kept kept_now : Option (Name → List Snapshot)) (out last : Name → Bool) (before after : ℕ) : Type 0 where
+    pub closed : List (Application R)
+    pub parts : all ≡ left ++ closed
+    pub marks : (n : Name) → last n ≡ marked out (names_in closed) false n
+    pub later : before ≤ after
+    pub risen : SomeFailed faults closed → Rose before after
+    pub holds : LeaveOpen history all left out held now
+    pub keeps : LeaveOpen snapshots all left out kept kept_now
+
+  pub closing_none : (all : List (Application R)) (held : Option Histories) (kept : Option (Name → List Snapshot)) (out : Name → Bool) (before : ℕ) → Closing all all held held kept kept out out before before
+  closing_none all held kept out before = record {
+    closed = [];
+    parts = sym (append-nil all);
+    marks = λ n. refl;
+    later = omega arith;
+    risen = λ some. absurd (let none : 0 < 0 = some.1 in omega (arith, none));
+    holds = leave_none history all out held;
+    keeps = leave_none snapshots all out kept;
+  }
+
+  module _ (all left rest : List (Application R)) (a : Application R) (held mid : Option Histories) (kept kept_mid : Option (Name → List Snapshot)) (out middle : Name → Bool) (before count : ℕ)
+      (x : Closing all left held mid kept kept_mid out middle before count) (is : left ≡ rest ++ a ∷ []) where
+    parted : all ≡ rest ++ a ∷ x.closed
+    parted = x.parts ∙ ap (λ (l : List (Application R)). l ++ x.closed) is ∙ append_assoc rest (a ∷ []) x.closed
+
+    at_place : slice_get all (length rest) ≡ Some a
+    at_place = ap (λ (l : List (Application R)). slice_get l (length rest)) parted ∙ get-middle rest a x.closed
+
+    names_parted : names_in all ≡ names_in rest ++ a.name ∷ names_in x.closed
+    names_parted = ap names_in parted ∙ map-append (λ (b : Application R). b.name) rest (a ∷ x.closed)
+
+    not_closed : AreDistinct (names_in all) → is_among a.name (names_in x.closed) ≡ false
+    not_closed distinct = first_apart a.name (names_in x.closed) (distinct_back (names_in rest) (a.name ∷ names_in x.closed) (subst AreDistinct names_parted distinct))
+
+    still_out : AreDistinct (names_in all) → ((n : Name) → is_among n (names_in all) ≡ true → out n ≡ true) → middle a.name ≡ true
+    still_out distinct outs =
+        x.marks a.name ∙ (λ i. if not_closed distinct i then false else out a.name) ∙ outs a.name (contains-among a.name (names_in all) (contains-at (names_in all) (length rest) a.name (name-at all (length rest) a at_place)))
+
+    leave_more : {A : Type 0} (tell : R → Option A) (told was new : Option (Name → A)) → LeaveOpen tell all left out told was → ClosesTold (middle a.name) was a.name (tell a.recorder) new → LeaveOpen tell all rest out told new
+    leave_more tell told was new earlier closes = λ base q distinct outs elsewhere tells others.
+        let y = earlier base q distinct outs elsewhere tells others in
+        record {
+          things = put y.things a.name (q a.name);
+          told = closes_at (middle a.name) was y.things a.name (q a.name) (tell a.recorder) new (still_out distinct outs) y.told (tells (length rest) a at_place) closes;
+          same = λ n none. put-cases (λ m v. v ≡ q m) y.things a.name (q a.name) n refl
+              (λ differ. y.same n (ap (λ (l : List (Application R)). is_among n (names_in l)) is ∙ ap (is_among n) (names_last rest a) ∙ among_others (names_in rest) a.name n differ ∙ none));
+        }
+
+    pub closing_more : (now : Option Histories) (kept_now : Option (Name → List Snapshot)) (last : Name → Bool) (after : ℕ) → ClosesTold (middle a.name) mid a.name (history a.recorder) now → ClosesTold (middle a.name) kept_mid a.name (snapshots a.recorder) kept_now
+        → ((n : Name) → last n ≡ put middle a.name false n) → count ≤ after → (0 < faults a.recorder → Rose count after) → Closing all rest held now kept kept_now out last before after
+    closing_more now kept_now last after closes keeps again later risen = record {
+      closed = a ∷ x.closed;
+      parts = parted;
+      marks = λ n. again n ∙ marks_first out middle (names_in x.closed) a.name false n (x.marks n);
+      later = omega (arith, x.later, later);
+      risen = λ some. rises some.0 some.1;
+      holds = leave_more history held mid now x.holds closes;
+      keeps = leave_more snapshots kept kept_mid kept_now x.keeps keeps;
+    }
+      where
+        rises : (i : ℕ) → 0 < faults_at faults (a ∷ x.closed) i → Rose before after
+        rises zero some = omega (arith, x.later, risen some)
+        rises (suc i) some = omega (arith, x.risen (i, some), later)
+
+  -- all were closed
+  module _ (all left : List (Application R)) (held now : Option Histories) (kept kept_now : Option (Name → List Snapshot)) (out last : Name → Bool) (before after : ℕ) (x : Closing all left held now kept kept_now out last before after) (none : length left ≡ 0) where
+    pub closed_holds : (base h : Histories) → AreDistinct (names_in all) → ((n : Name) → is_among n (names_in all) ≡ true → out n ≡ true) → HoldElsewhere (names_in all) base held → HoldHistories history base all h → now ≡ Some h
+    closed_holds base h distinct outs elsewhere histories = leave_all history all left out held now (nil_of left none) x.holds base h distinct outs elsewhere histories.each histories.elsewhere
+
+    pub closed_keeps : (base q : Name → List Snapshot) → AreDistinct (names_in all) → ((n : Name) → is_among n (names_in all) ≡ true → out n ≡ true) → HoldElsewhere (names_in all) base kept → TellEach snapshots q all
+        → ((n : Name) → is_among n (names_in all) ≡ false → q n ≡ base n) → kept_now ≡ Some q
+    closed_keeps = leave_all snapshots all left out kept kept_now (nil_of left none) x.keeps
+
+module _ {R : Type 0} (history : R → Option (List Recording)) (capacity faults : R → ℕ) where
+  -- the applications hold what they held
+  pub record AreKept (old new : List (Application R)) : Type 0 where
+    pub holds : (base : Histories) (options : Options) (readings : Option Readings) (s : State) → Holds history capacity base options old readings s → Holds history capacity base options new readings s
+    pub names : names_in new ≡ names_in old
+    pub later : Later faults old new
+
+  pub kept_more : (old mid : List (Application R)) (i : ℕ) (a b : Application R) → AreKept old mid → slice_get mid i ≡ Some a → IsSame history capacity a b → faults a.recorder ≤ faults b.recorder → AreKept old (slice_set mid i b)
+  kept_more old mid i a b x at same less =
+      let kept : names_in (slice_set mid i b) ≡ names_in mid = map-set (λ (c : Application R). c.name) mid i b a at same.name in
+      record {
+        holds = λ base options readings s first.
+            let held = x.holds base options readings s first in
+            record {
+              each = λ j c there. get-cases (λ (y : Application R). HoldsOne history capacity options y s) mid i j b a c at there (same-one history capacity options a b s same (held.each i a at)) (λ other was. held.each j c was);
+              clock = held.clock;
+              elsewhere = λ n none. held.elsewhere n (ap (is_among n) (sym kept) ∙ none);
+            };
+        names = kept ∙ x.names;
+        later = later-then faults old mid (slice_set mid i b) x.later (later-set faults mid i a b at less);
+      }
+
+  -- what one of them holds
+  pub holds_at : (base : Histories) (options : Options) (readings : Option Readings) (s : State) (old mid : List (Application R)) (i : ℕ) (a : Application R) → AreKept old mid → Holds history capacity base options old readings s → slice_get mid i ≡ Some a
+      → (history a.recorder ≡ Some (s.histories a.name)) × (slice_get (names_in old) i ≡ Some a.name)
+  holds_at base options readings s old mid i a x held at = ((((x.holds base options readings s held).each) i a at).told, ap (λ (names : List Name). slice_get names i) (sym x.names) ∙ name-at mid i a at)
+
+-- the first of some applications hold nothing
+abbrev pub AreEmptyTo : List Name → ℕ → Histories → Type 0
+AreEmptyTo names i h = (k : ℕ) (n : Name) → k < i → slice_get names k ≡ Some n → h n ≡ []
+
+empty_of : (h : List Recording) (used : Bool) → used ≡ ltb 0 (length h) → used ≡ false → h ≡ []
+empty_of [] used is unused = refl
+empty_of (r ∷ h) used is unused = absurd (let clash : true ≡ false = sym ((Decides-ltb 0 (length (r ∷ h))).1 (omega arith)) ∙ sym is ∙ unused in cc clash)
+
+pub empty_more : (names : List Name) (i : ℕ) (h : Histories) (n : Name) (used : Bool) → AreEmptyTo names i h → slice_get names i ≡ Some n → used ≡ ltb 0 (length (h n)) → used ≡ false → AreEmptyTo names (i + 1) h
+empty_more names i h n used before at is unused k m below there = by (ltb k i) refl
+  where
+    by : (b : Bool) → ltb k i ≡ b → h m ≡ []
+    by true less = before k m ((Decides-ltb k i).0 less) there
+    by false past =
+        let none : k < i → ⊥ = λ (less : k < i). (let clash : false ≡ true = sym past ∙ (Decides-ltb k i).1 less in cc clash) in
+        let same : k ≡ i = omega (arith, none, below) in
+        let name : n ≡ m = (let e : Some n ≡ Some m = sym at ∙ ap (slice_get names) (sym same) ∙ there in (let f : n ≡ m = cc in f)) in
+        ap h (sym name) ∙ empty_of (h n) used is unused
+
+pub empty_all : (names : List Name) (i : ℕ) (h : Histories) → AreEmptyTo names i h → length names ≤ i → AreEmpty names h
+empty_all names i h before past n there = let within : there.0 < length names = there.1 in before there.0 n (omega (arith, within, past)) (contains_get names n there).1
+
+pub occupied_at : (names : List Name) (i : ℕ) (h : Histories) (n : Name) (used : Bool) → slice_get names i ≡ Some n → used ≡ ltb 0 (length (h n)) → used ≡ true → IsOccupied names h
+occupied_at names i h n used at is taken = (n, contains-at names i n at, (Decides-ltb 0 (length (h n))).0 (sym is ∙ taken))

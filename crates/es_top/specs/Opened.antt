@@ -1,0 +1,92 @@
+-- Applications that were opened, and what stands beyond this stage.
+use Rattle.std.specs.Prelude.{◌≡◌, ◌⊎◌, ◌<◌, ℕ, nat_lt, ◌||◌, Bool, true, false, List, ◌++◌, length, Contains, slice_get, if◌then◌else◌, Option, Some, is_some}
+use Rattle.std.specs.List.{list_any}
+use Rattle.es_model.specs.declared.declaration.System.{System}
+use Rattle.es_model.specs.History.{Histories}
+use Rattle.es_model.specs.Values.{Name}
+use Rattle.es_decl.specs.Pairs.{pairs_of}
+use Rattle.es_process.specs.declared.application.Application.{Application}
+use Rattle.es_process.specs.Drains.{IsOnlyPair}
+use Rattle.es_process.specs.SingleThread.{is_among}
+use Rattle.es_process.specs.Standing.{faults_at, names_in}
+use Rattle.es_process.specs.SystemRules.{app_names}
+use Rattle.es_single.specs.Limits.{limits}
+use Rattle.es_single.specs.Runs.{AreEmpty}
+use Rattle.es_top.specs.declared.opening.Pairing.{Pairing}
+use Rattle.es_top.specs.declared.opening.Pairing.TheVariants.{Only, Several}
+
+-- this at each of some names, and elsewhere what was there
+abbrev pub marked : (Name → Bool) → List Name → Bool → Name → Bool
+marked out names b n = if is_among n names then b else out n
+
+-- the stores tell, and elsewhere than at these names they hold what this says
+pub record HoldElsewhere {A : Type 0} (names : List Name) (base : Name → A) (held : Option (Name → A)) : Type 0 where
+  pub things : Name → A
+  pub told : held ≡ Some things
+  pub same : (n : Name) → is_among n names ≡ false → things n ≡ base n
+
+-- the recorder of each application tells what this says of its name
+abbrev pub TellEach : {A R : Type 0} → (R → Option A) → (Name → A) → List (Application R) → Type 0
+TellEach {A} {R} tell q apps = (i : ℕ) (a : Application R) → slice_get apps i ≡ Some a → tell a.recorder ≡ Some (q a.name)
+
+-- the recorders of some applications tell what the stores held, which now hold the rest
+pub record AreHandedOut {A R : Type 0} (tell : R → Option A) (held now : Option (Name → A)) (apps : List (Application R)) : Type 0 where
+  pub each : (q : Name → A) → held ≡ Some q → TellEach tell q apps
+  pub elsewhere : (q : Name → A) → held ≡ Some q → HoldElsewhere (names_in apps) q now
+
+-- no recorder has failed
+abbrev pub AreFresh : {R : Type 0} → (R → ℕ) → List (Application R) → Type 0
+AreFresh faults apps = (i : ℕ) → faults_at faults apps i ≡ 0
+
+-- the recorder at a place has failed
+abbrev pub SomeFailed : {R : Type 0} → (R → ℕ) → List (Application R) → Type 0
+SomeFailed faults apps = (i : ℕ) × (0 < faults_at faults apps i)
+
+-- an application as it is opened: nothing has happened in this run
+pub record IsOpened {R : Type 0} (capacity faults : R → ℕ) (a : Application R) : Type 0 where
+  pub room : capacity a.recorder ≡ limits.capacity
+  pub turns : a.turns ≡ limits.turns
+  pub unused : a.used ≡ 0
+  pub fresh : faults a.recorder ≡ 0
+
+-- these applications were opened, and no others
+pub record AreOpened {R : Type 0} (capacity faults : R → ℕ) (out out_now : Name → Bool) (apps : List (Application R)) : Type 0 where
+  pub each : (i : ℕ) (a : Application R) → slice_get apps i ≡ Some a → IsOpened capacity faults a
+  pub marks : (n : Name) → out_now n ≡ marked out (names_in apps) true n
+  pub were_in : (n : Name) → is_among n (names_in apps) ≡ true → out n ≡ false
+
+-- some names are the first of these
+abbrev pub IsFrontOfNames : List Name → List Name → Type 0
+IsFrontOfNames front names = (rest : List Name) × (front ++ rest ≡ names)
+
+-- one of these applications holds a recording
+abbrev pub IsOccupied : List Name → Histories → Type 0
+IsOccupied names h = (app : Name) × Contains names app × (0 < length (h app))
+
+-- whether one holds a recording
+abbrev pub IsOccupiedTest : List Name → Histories → Bool → Type 0
+IsOccupiedTest names h true = IsOccupied names h
+IsOccupiedTest names h false = AreEmpty names h
+
+abbrev pub has_several : System → Bool
+has_several sys = nat_lt 1 (length (pairs_of sys.pipes))
+
+abbrev pub has_interval : System → Bool
+has_interval sys = list_any (λ c. is_some c.interval) sys.classes
+
+-- the system has more than one pair, or a class that wants snapshots
+abbrev pub is_beyond : System → Bool
+is_beyond sys = has_interval sys || has_several sys
+
+-- this stage doesn't run it: the system is beyond it, or an application holds a recording
+abbrev pub IsNotBuilt : System → Histories → Type 0
+IsNotBuilt sys h = (is_beyond sys ≡ true) ⊎ IsOccupied (app_names sys) h
+
+-- this stage runs it
+abbrev pub IsBuilt : System → Histories → Type 0
+IsBuilt sys h = (is_beyond sys ≡ false) × AreEmpty (app_names sys) h
+
+-- the one pair of a system or that it has none, with its applications at their places in its order; or that it has several
+abbrev pub IsPairing : System → Pairing → Type 0
+IsPairing sys (Only pair) = IsOnlyPair sys (app_names sys) pair × (has_several sys ≡ false)
+IsPairing sys Several = has_several sys ≡ true

@@ -1,8 +1,0 @@
--- What a line asks.
-use Rattle.std.specs.Prelude.{ℕ, List, Option}
-use Rattle.es_model.specs.Values.{Name, Id}
-
--- a command for an aggregate of an application, as the text that its cause keeps, with the version that it expects where it expects one; or no request at all
-pub data Request : Type 0 where
-  command : Name → List ℕ → Id → Option ℕ → Request
-  no_request : Request

@@ -1,0 +1,250 @@
+ghost use Rattle.std.specs.Prelude.{◌≡◌, ◌≤◌, ◌<◌, ◌∷◌, [], List, Contains, length, map, nat_lt, slice_get, Option, Some, IfSome, IfOk, OnOk, OnErr, IsErrOf, true, false, vec_capacity};
+ghost use Rattle.std.specs.List.{position};
+ghost use Rattle.std.specs.Str.{bytes_eq};
+ghost use Rattle.es_model.specs.declared.event.Recording.{Recording};
+ghost use Rattle.es_model.specs.declared.snapshot.Snapshot.{Snapshot};
+ghost use Rattle.es_model.specs.Causes.{CallHasCause, Rose};
+ghost use Rattle.es_model.specs.History.{Histories};
+ghost use Rattle.es_model.specs.Values.{Name};
+ghost use Rattle.es_expr.specs.Checked.{IsCheckedSystem};
+ghost use Rattle.es_io.specs.Readings.{Readings};
+ghost use Rattle.es_decl.specs.Pairs.{pairs_of};
+ghost use Rattle.es_recorder.specs.Held.{put, SameElsewhere, ClosesTold};
+ghost use Rattle.es_process.specs.Answer.{Options};
+ghost use Rattle.es_process.specs.Drains.{IsPairOf};
+ghost use Rattle.es_process.specs.SingleThread.{is_among};
+ghost use Rattle.es_process.specs.Standing.{State, Holds, HoldHistories, IsSame, Later, SomeRose, AreDistinct, names_in, snapshots_in};
+ghost use Rattle.es_process.specs.SystemRules.{app_names};
+ghost use Rattle.es_single.specs.Limits.{limits};
+ghost use Rattle.es_single.specs.Runs.{state_of};
+ghost use Rattle.es_top.specs.Opened.{AreOpened, AreHandedOut, IsFrontOfNames, marked, HoldElsewhere, TellEach, AreFresh, SomeFailed, IsOccupiedTest, has_interval as has_interval_of, IsPairing};
+ghost use Rattle.es_top.specs.Top.{IsLeft};
+
+use es_decl::pairs;
+use es_model::{App, CallFault, Duplicate, NoMemory, System, Text};
+use es_process::{Application, Pair};
+use es_recorder::{ProcessRecorder, Stores};
+use std::alloc::Global;
+
+/// How many events an application may have.
+const CAPACITY: u64 = 1 << 40;
+
+/// How many notifications an application may record in a run.
+const TURNS: u64 = 1000000;
+
+/// Which applications of a system follow each other.
+#[derive(Debug, Drop)]
+pub enum Pairing {
+    /// There is one pair, or none.
+    Only(Option<Pair>),
+    /// There are more.
+    Several,
+}
+
+/// Whether a class wants snapshots at an interval.
+pub fn has_interval(sys: &System) -> bool
+    ensures { result ≡ has_interval_of sys.now }
+{
+    sys.classes
+        .as_slice()
+        .iter()
+        .any(|class| class.interval.is_some())
+}
+
+// The place of the first application of a name.
+fn position_of(apps: &[App], name: &Text) -> Option<usize>
+    ensures { result ≡ position (λ a. bytes_eq a.name name.now) apps.now }
+{
+    apps.iter()
+        .position(|app| app.name.as_str() == name.as_str())
+}
+
+// The place of an application of a name that is declared.
+fn place_of(apps: &[App], name: &Text) -> usize
+    requires { Contains (map (λ a. a.name) apps.now) name.now }
+    ensures { slice_get (map (λ a. a.name) apps.now) result ≡ Some name.now }
+{
+    position_of(apps, name).unwrap()
+}
+
+// The one pair of a system, with the places of its applications.
+fn pair_of(sys: &System, leader: &Text, follower: &Text) -> Result<Pair, NoMemory>
+    requires checked { IsCheckedSystem sys.now }
+    requires pairs { pairs_of sys.now.pipes ≡ (leader.now, follower.now) ∷ [] }
+    ensures { IfOk result (IsPairOf sys.now (app_names sys.now)) }
+{
+    let leader_name = leader.copy()?;
+    let follower_name = follower.copy()?;
+    Ok(Pair {
+        leader: place_of(sys.apps.as_slice(), leader),
+        follower: place_of(sys.apps.as_slice(), follower),
+        leader_name,
+        follower_name,
+    })
+}
+
+/// The one pair of leader and follower in the system, with their places, if it has no more.
+pub fn pairing_of(alloc: Global, sys: &System) -> Result<Pairing, NoMemory>
+    requires { IsCheckedSystem sys.now }
+    ensures { IfOk result (IsPairing sys.now) }
+{
+    let found = pairs(alloc, sys)?;
+    if found.len() > 1 {
+        return Ok(Pairing::Several);
+    }
+    match found.as_slice() {
+        [pair, ..] => Ok(Pairing::Only(Some(pair_of(sys, &pair.0, &pair.1)?))),
+        [] => Ok(Pairing::Only(None)),
+    }
+}
+
+// Opens an application of the stores.
+fn open_application<M: Stores>(stores: &mut M, name: &Text) -> Result<Application<M::R>, CallFault>
+    ensures named { IfOk result (λ app. app.name ≡ name.now) }
+    ensures opened { IfSome (M.held stores.old) (λ h. IfOk result (λ app. M.R.history app.recorder ≡ Some (h name.now))) }
+    ensures opened_snapshots { IfSome (M.snapshots stores.old) (λ q. IfOk result (λ app. M.R.snapshots app.recorder ≡ Some (q name.now))) }
+    ensures capacity { IfOk result (λ app. M.R.capacity app.recorder ≡ limits.capacity) }
+    ensures turns { IfOk result (λ app. app.turns ≡ limits.turns) }
+    ensures unused { IfOk result (λ app. app.used ≡ 0) }
+    ensures fresh { IfOk result (λ app. M.R.faults app.recorder ≡ 0) }
+    ensures out { OnOk result ((other : Name) → M.out stores.new other ≡ put (M.out stores.old) name.now true other) }
+    ensures was_in { OnOk result (M.out stores.old name.now ≡ false) }
+    ensures others { SameElsewhere name.now (M.held stores.old) (M.held stores.new) }
+    ensures other_snapshots { SameElsewhere name.now (M.snapshots stores.old) (M.snapshots stores.new) }
+    ensures refused { OnErr result (M.held stores.new ≡ M.held stores.old) }
+    ensures refused_snapshots { OnErr result (M.snapshots stores.new ≡ M.snapshots stores.old) }
+    ensures still { OnErr result ((other : Name) → M.out stores.new other ≡ M.out stores.old other) }
+    ensures cause { CallHasCause (M.faults stores.old) (M.faults stores.new) result }
+{
+    let Ok(own) = name.copy() else {
+        return Err(CallFault::NoMemory);
+    };
+    match stores.open(None, &own, CAPACITY) {
+        Ok(recorder) => Ok(Application {
+            name: own,
+            recorder,
+            turns: TURNS,
+            used: 0,
+        }),
+        Err(fault) => Err(fault),
+    }
+}
+
+// Puts an application back into the stores.
+fn close_application<M: Stores>(stores: &mut M, app: Application<M::R>)
+    ensures closed { ClosesTold (M.out stores.old app.name) (M.held stores.old) app.name (M.R.history app.recorder) (M.held stores.new) }
+    ensures closed_snapshots { ClosesTold (M.out stores.old app.name) (M.snapshots stores.old) app.name (M.R.snapshots app.recorder) (M.snapshots stores.new) }
+    ensures in_again { (other : Name) → M.out stores.new other ≡ put (M.out stores.old) app.name false other }
+    ensures later { M.faults stores.old ≤ M.faults stores.new }
+    ensures risen { 0 < M.R.faults app.recorder → Rose (M.faults stores.old) (M.faults stores.new) }
+{
+    let Application {
+        name,
+        recorder,
+        turns: _,
+        used: _,
+    } = app;
+    stores.close(&name, recorder);
+}
+
+// Opens applications in order, into a vector with room for all. Where one can't be opened, it has those before.
+fn open_each<M: Stores>(
+    stores: &mut M,
+    apps: &[App],
+    opened: &mut Vec<Application<M::R>>,
+) -> Result<(), CallFault>
+    requires empty { opened.old.items ≡ [] }
+    requires room { length apps.now ≤ vec_capacity opened.old }
+    ensures opened { AreOpened M.R.capacity M.R.faults (M.out stores.old) (M.out stores.new) opened.new.items }
+    ensures histories { AreHandedOut M.R.history (M.held stores.old) (M.held stores.new) opened.new.items }
+    ensures snapshots { AreHandedOut M.R.snapshots (M.snapshots stores.old) (M.snapshots stores.new) opened.new.items }
+    ensures front { IsFrontOfNames (names_in opened.new.items) (map (λ a. a.name) apps.now) }
+    ensures named { OnOk result (names_in opened.new.items ≡ map (λ a. a.name) apps.now) }
+    ensures later { M.faults stores.old ≤ M.faults stores.new }
+    ensures failed { IsErrOf result CallFault.Failed → Rose (M.faults stores.old) (M.faults stores.new) }
+{
+    for app in apps {
+        let application = open_application(stores, &app.name)?;
+        opened.push_reserved(application);
+    }
+    Ok(())
+}
+
+/// Opens all applications, in the order in which they are declared. Where one can't be opened, those that were are
+/// closed again.
+pub fn open_all<M: Stores>(
+    alloc: Global,
+    stores: &mut M,
+    sys: &System,
+) -> Result<Vec<Application<M::R>>, CallFault>
+    requires { AreDistinct (app_names sys.now) }
+    ensures opened { (readings : Option Readings) (r : Readings) (h : Histories) → readings ≡ Some r → M.held stores.old ≡ Some h → IfOk result (λ apps. Holds M.R.history M.R.capacity h limits apps.items readings (state_of h r)) }
+    ensures opened_snapshots { (q : Name → List Snapshot) → M.snapshots stores.old ≡ Some q → IfOk result (λ apps. TellEach M.R.snapshots q apps.items) }
+    ensures named { IfOk result (λ apps. names_in apps.items ≡ app_names sys.now) }
+    ensures fresh { IfOk result (λ apps. AreFresh M.R.faults apps.items) }
+    ensures out { OnOk result ((n : Name) → M.out stores.new n ≡ marked (M.out stores.old) (app_names sys.now) true n) }
+    ensures were_in { OnOk result ((n : Name) → is_among n (app_names sys.now) ≡ true → M.out stores.old n ≡ false) }
+    ensures elsewhere { OnOk result ((h : Histories) → M.held stores.old ≡ Some h → HoldElsewhere (app_names sys.now) h (M.held stores.new)) }
+    ensures elsewhere_snapshots { OnOk result ((q : Name → List Snapshot) → M.snapshots stores.old ≡ Some q → HoldElsewhere (app_names sys.now) q (M.snapshots stores.new)) }
+    ensures refused { OnErr result (IsLeft (M.held stores.old) (M.held stores.new)) }
+    ensures refused_snapshots { OnErr result (IsLeft (M.snapshots stores.old) (M.snapshots stores.new)) }
+    ensures still { OnErr result ((n : Name) → M.out stores.new n ≡ M.out stores.old n) }
+    ensures cause { CallHasCause (M.faults stores.old) (M.faults stores.new) result }
+{
+    let Ok(mut apps) = Vec::with_capacity(alloc, sys.apps.len()) else {
+        return Err(CallFault::NoMemory);
+    };
+    match open_each(stores, sys.apps.as_slice(), &mut apps) {
+        Ok(()) => Ok(apps),
+        Err(fault) => {
+            close_all(stores, apps);
+            Err(fault)
+        }
+    }
+}
+
+/// Closes all applications.
+pub fn close_all<M: Stores>(stores: &mut M, mut apps: Vec<Application<M::R>>)
+    ensures closed { (base : Histories) (h : Histories) → AreDistinct (names_in apps.items) → ((n : Name) → is_among n (names_in apps.items) ≡ true → M.out stores.old n ≡ true)
+        → HoldElsewhere (names_in apps.items) base (M.held stores.old) → HoldHistories M.R.history base apps.items h → M.held stores.new ≡ Some h }
+    ensures closed_snapshots { (base : Name → List Snapshot) (q : Name → List Snapshot) → AreDistinct (names_in apps.items) → ((n : Name) → is_among n (names_in apps.items) ≡ true → M.out stores.old n ≡ true)
+        → HoldElsewhere (names_in apps.items) base (M.snapshots stores.old) → TellEach M.R.snapshots q apps.items → ((n : Name) → is_among n (names_in apps.items) ≡ false → q n ≡ base n) → M.snapshots stores.new ≡ Some q }
+    ensures in_again { (n : Name) → M.out stores.new n ≡ marked (M.out stores.old) (names_in apps.items) false n }
+    ensures later { M.faults stores.old ≤ M.faults stores.new }
+    ensures risen { SomeFailed M.R.faults apps.items → Rose (M.faults stores.old) (M.faults stores.new) }
+{
+    while let Some(app) = apps.pop() {
+        close_application(stores, app);
+    }
+    apps.destroy_empty();
+}
+
+// Whether one application holds a recording.
+fn is_used<R: ProcessRecorder>(app: &mut Application<R>) -> Result<bool, CallFault>
+    ensures told { (h : List Recording) → R.history app.old.recorder ≡ Some h → IfOk result (λ used. used ≡ nat_lt 0 (length h)) }
+    ensures same { IsSame R.history R.capacity app.old app.new }
+    ensures same_snapshots { R.snapshots app.new.recorder ≡ R.snapshots app.old.recorder }
+    ensures cause { CallHasCause (R.faults app.old.recorder) (R.faults app.new.recorder) result }
+{
+    match app.recorder.recordings() {
+        Ok(count) => Ok(0 < count),
+        Err(fault) => Err(fault),
+    }
+}
+
+/// Whether an application holds a recording.
+pub fn is_occupied<R: ProcessRecorder>(apps: &mut [Application<R>]) -> Result<bool, CallFault>
+    ensures told { (base : Histories) (options : Options) (readings : Option Readings) (s : State) → Holds R.history R.capacity base options apps.old readings s → IfOk result (IsOccupiedTest (names_in apps.old) s.histories) }
+    ensures same { (base : Histories) (options : Options) (readings : Option Readings) (s : State) → Holds R.history R.capacity base options apps.old readings s → Holds R.history R.capacity base options apps.new readings s }
+    ensures same_names { names_in apps.new ≡ names_in apps.old }
+    ensures same_snapshots { snapshots_in R.snapshots apps.new ≡ snapshots_in R.snapshots apps.old }
+    ensures later { Later R.faults apps.old apps.new }
+    ensures recorder { IsErrOf result CallFault.Failed → SomeRose R.faults apps.old apps.new }
+{
+    for app in apps.iter_mut() {
+        if is_used(app)? {
+            return Ok(true);
+        }
+    }
+    Ok(false)
+}
