@@ -299,7 +299,7 @@ fn ran_over(
     Ok((status.code(), out.bytes().to_vec(alloc)?))
 }
 
-// The recording of an application at a place, from 0, or nothing.
+// The state of an application's notification.
 fn event_state(
     alloc: Global,
     stores: &mut MemoryStores,
