@@ -1,13 +1,10 @@
-//! Measures how fast a state of five fields is encoded and decoded. The one word is how often. The
-//! rates are written to the standard error, and the state's text to the standard output.
-#![tactic(auto)]
-
+//! How fast a state of five fields is encoded and decoded.
+use crate::rate;
 use es_model::{Atom, Decimal, Fields, Moment, NoMemory, Text, Value};
 use es_transcode::{decode_record, encode_record};
 use std::alloc::Global;
-use std::env;
 use std::rt::Clock;
-use std::time::{Duration, Instant};
+use std::time::Instant;
 use uuid::Uuid;
 
 fn put(alloc: Global, fields: &mut Fields, name: &str, atom: Atom) -> Result<(), NoMemory> {
@@ -53,12 +50,12 @@ fn decode(alloc: Global, text: &[u8], times: u64) -> anyhow::Result<u64> {
     Ok(read)
 }
 
-// So many in this time, for a second.
-fn rate(count: u64, time: Duration) -> u128 {
-    u128::from(count) * 1_000_000 / time.as_micros().max(1)
-}
-
-fn measure(rt: &(impl Clock + Eprint + Print), alloc: Global, times: u64) -> anyhow::Result<()> {
+/// Encodes and decodes so often.
+pub(crate) fn measure(
+    rt: &(impl Clock + Eprint + Print),
+    alloc: Global,
+    times: u64,
+) -> anyhow::Result<()> {
     let fields = state(alloc)?;
     let text = encode_record(alloc, &fields)?;
     let before = Instant::now(rt)?;
@@ -69,14 +66,6 @@ fn measure(rt: &(impl Clock + Eprint + Print), alloc: Global, times: u64) -> any
     let decoded = rate(times, before.elapsed(rt)?);
     println!(rt; "{}", str::from_utf8(text.as_slice())?)?;
     println!(rt; "{bytes} bytes, {read} fields")?;
-    eprintln!(rt; "{:>9} {encoded:>12} {decoded:>12}", "evsys")?;
-    Ok(())
-}
-
-fn main(rt: HostRuntime) -> anyhow::Result<()> {
-    let alloc = rt.alloc();
-    for word in env::args(&rt)?.skip(1) {
-        measure(&rt, alloc, word.as_str().parse::<u64>()?)?;
-    }
+    eprintln!(rt; "{:>12} {encoded:>12} {decoded:>12}", "records")?;
     Ok(())
 }

@@ -1,11 +1,6 @@
-//! Measures how fast documents of nearly the most bytes are read, each made large by something else. The
-//! words are how often. The times are written to the standard error, and what was read to the standard
-//! output.
-#![tactic(auto)]
-
+//! How fast documents of nearly the most bytes are read, each made large by something else.
 use es_decl::read_system;
 use std::alloc::{AllocError, Global};
-use std::env;
 use std::rt::Clock;
 use std::time::Instant;
 
@@ -97,7 +92,7 @@ fn read(alloc: Global, document: &str, times: u64) -> anyhow::Result<usize> {
     Ok(classes)
 }
 
-fn measure(
+fn report(
     rt: &(impl Clock + Eprint + Print),
     alloc: Global,
     bulk: &Bulk,
@@ -140,14 +135,15 @@ fn bulks(alloc: Global) -> Result<[Bulk; 3], AllocError> {
     ])
 }
 
-fn main(rt: HostRuntime) -> anyhow::Result<()> {
-    let alloc = rt.alloc();
+/// Reads each document so often.
+pub(crate) fn measure(
+    rt: &(impl Clock + Eprint + Print),
+    alloc: Global,
+    times: u64,
+) -> anyhow::Result<()> {
     let bulks = bulks(alloc)?;
-    for word in env::args(&rt)?.skip(1) {
-        let times = word.as_str().parse::<u64>()?;
-        for bulk in &bulks {
-            measure(&rt, alloc, bulk, times)?;
-        }
+    for bulk in &bulks {
+        report(rt, alloc, bulk, times)?;
     }
     Ok(())
 }

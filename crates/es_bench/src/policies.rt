@@ -1,9 +1,5 @@
-//! Measures the decisions of a policy with three rules on a deposit: the first one deposits it, the
-//! second one doesn't apply, and the third one withdraws the deposit again. The words are numbers of
-//! decisions. The times are written to the standard error, and how many events were decided to the
-//! standard output.
-#![tactic(auto)]
-
+//! How fast a policy of three rules decides on a deposit: the first one deposits it, the second one doesn't
+//! apply, and the third one withdraws the deposit again.
 mod declared;
 mod held;
 
@@ -12,14 +8,14 @@ ghost use Rattle.es_model.specs.Declaration.{app_named};
 ghost use Rattle.es_expr.specs.Checked.{IsCheckedSystem};
 ghost use Rattle.es_domain.specs.Decision.{IsNotice, notice};
 
+use crate::rate;
 use declared::{account, deposit, system, text};
 use es_domain::{Aggregate, Decision, FindFault, decide_policy};
 use es_model::{DomainEvent, Moment, System, Text, are_of_kinds};
 use held::Held;
 use std::alloc::Global;
-use std::env;
 use std::rt::Clock;
-use std::time::{Duration, Instant};
+use std::time::Instant;
 
 // Whether an application is declared.
 fn is_app(sys: &System, name: &Text) -> bool
@@ -91,7 +87,7 @@ fn decide_all(
 }
 
 // The same, where they may be decided.
-fn measure(alloc: Global, sys: &System, count: u64) -> anyhow::Result<usize>
+fn decided_events(alloc: Global, sys: &System, count: u64) -> anyhow::Result<usize>
     requires { IsCheckedSystem sys.now }
 {
     let account = account(alloc)?;
@@ -107,12 +103,7 @@ fn measure(alloc: Global, sys: &System, count: u64) -> anyhow::Result<usize>
     Ok(decide_all(alloc, sys, &account, &ledger, &leader, &event, count)?)
 }
 
-// So many in this time, for a second.
-fn rate(count: u64, time: Duration) -> u128 {
-    u128::from(count) * 1_000_000 / time.as_micros().max(1)
-}
-
-// Times so many decisions.
+// The rate of so many decisions.
 fn report(
     rt: &(impl Clock + Eprint + Print),
     alloc: Global,
@@ -122,22 +113,19 @@ fn report(
     requires { IsCheckedSystem sys.now }
 {
     let before = Instant::now(rt)?;
-    let events = measure(alloc, sys, count)?;
+    let events = decided_events(alloc, sys, count)?;
     let decisions = rate(count, before.elapsed(rt)?);
     println!(rt; "{count} decisions: {events} events")?;
-    eprintln!(rt; "{decisions}")?;
+    eprintln!(rt; "{:>12} {decisions:>12}", "policies")?;
     Ok(())
 }
 
-fn run(rt: &(impl Clock + Eprint + Print), alloc: Global, count: u64) -> anyhow::Result<()> {
+/// Times so many decisions.
+pub(crate) fn measure(
+    rt: &(impl Clock + Eprint + Print),
+    alloc: Global,
+    count: u64,
+) -> anyhow::Result<()> {
     let sys = system(alloc)?;
     report(rt, alloc, &sys, count)
-}
-
-fn main(rt: HostRuntime) -> anyhow::Result<()> {
-    let alloc = rt.alloc();
-    for word in env::args(&rt)?.skip(1) {
-        run(&rt, alloc, word.as_str().parse::<u64>()?)?;
-    }
-    Ok(())
 }

@@ -1,17 +1,13 @@
-//! Measures the test of a guard. The words are numbers of tests, half of them over an amount within
-//! the balance, and half beyond it. The times are written to the standard error, and how many held
-//! to the standard output.
-#![tactic(auto)]
-
+//! How fast a guard is tested: half of the tests are over an amount within the balance, half beyond it.
 ghost use Rattle.std.specs.Prelude.{◌≡◌, Ok};
 ghost use Rattle.es_expr.specs.Sound.{IsTest};
 
+use crate::rate;
 use es_expr::{EvalFault, ExprFault, check, fit, test};
 use es_model::{Atom, AtomKind, Boxed, Expr, Fields, Kind, Kinds, NoMemory, Text, Value};
 use std::alloc::Global;
-use std::env;
 use std::rt::Clock;
-use std::time::{Duration, Instant};
+use std::time::Instant;
 
 fn name(alloc: Global, text: &str) -> Result<Boxed<Expr>, NoMemory> {
     Boxed::new(alloc, Expr::Get(Text::from_str(alloc, text)?))
@@ -54,7 +50,7 @@ fn held(alloc: Global, guard: &Expr, fields: &Fields, count: u64) -> Result<u64,
 }
 
 // So many tests over an amount, where they are checked.
-fn measure(alloc: Global, guard: &Expr, amount: i64, count: u64) -> anyhow::Result<u64> {
+fn tested(alloc: Global, guard: &Expr, amount: i64, count: u64) -> anyhow::Result<u64> {
     let kinds = kinds(alloc)?;
     let fields = fields(alloc, amount)?;
     match check(alloc, guard, &kinds) {
@@ -70,12 +66,7 @@ fn measure(alloc: Global, guard: &Expr, amount: i64, count: u64) -> anyhow::Resu
     }
 }
 
-// So many in this time, for a second.
-fn rate(count: u64, time: Duration) -> u128 {
-    u128::from(count) * 1_000_000 / time.as_micros().max(1)
-}
-
-// Times so many tests.
+// The rate of so many tests.
 fn report(
     rt: &(impl Clock + Eprint + Print),
     alloc: Global,
@@ -83,23 +74,20 @@ fn report(
     count: u64,
 ) -> anyhow::Result<()> {
     let before = Instant::now(rt)?;
-    let within = measure(alloc, guard, 5, count / 2)?;
-    let beyond = measure(alloc, guard, 1001, count / 2)?;
+    let within = tested(alloc, guard, 5, count / 2)?;
+    let beyond = tested(alloc, guard, 1001, count / 2)?;
     let tests = rate(count, before.elapsed(rt)?);
     println!(rt; "{count} tests: {within} held, {beyond} beyond the balance")?;
-    eprintln!(rt; "{tests}")?;
+    eprintln!(rt; "{:>12} {tests:>12}", "expressions")?;
     Ok(())
 }
 
-fn run(rt: &(impl Clock + Eprint + Print), alloc: Global, count: u64) -> anyhow::Result<()> {
+/// Times so many tests.
+pub(crate) fn measure(
+    rt: &(impl Clock + Eprint + Print),
+    alloc: Global,
+    count: u64,
+) -> anyhow::Result<()> {
     let guard = guard(alloc)?;
     report(rt, alloc, &guard, count)
-}
-
-fn main(rt: HostRuntime) -> anyhow::Result<()> {
-    let alloc = rt.alloc();
-    for word in env::args(&rt)?.skip(1) {
-        run(&rt, alloc, word.as_str().parse::<u64>()?)?;
-    }
-    Ok(())
 }

@@ -1,18 +1,14 @@
-//! Measures the recorder in memory. The words are numbers of recordings, in rising order: when it
-//! holds so many, some appends and some selections are timed. The times are written to the
-//! standard error, and what was done to the standard output.
-#![tactic(auto)]
-
+//! How fast the recorder in memory appends and selects, when it holds so many recordings.
 ghost use Rattle.std.specs.Prelude.{◌<◌, ◌^◌, IfOk};
 ghost use Rattle.es_recorder.specs.Insert.{IsInsertable};
 
+use crate::rate;
 use es_memory::MemoryRecorder;
 use es_model::{Bytes, Cause, Moment, NoMemory, Recording, StoredEvent, StoredEvents, Text};
 use es_recorder::{AggregateRecorder, ApplicationRecorder, ProcessRecorder};
 use std::alloc::Global;
-use std::env;
 use std::rt::Clock;
-use std::time::{Duration, Instant};
+use std::time::Instant;
 use uuid::Uuid;
 
 // How many appends and how many selections are timed.
@@ -64,37 +60,24 @@ fn select(recorder: &mut MemoryRecorder, held: u64) -> anyhow::Result<u64> {
     Ok(found)
 }
 
-// So many in this time, for a second.
-fn rate(count: u64, time: Duration) -> u128 {
-    u128::from(count) * 1_000_000 / time.as_micros().max(1)
-}
-
-// Fills the recorder up to a number, and times appends and selections there.
-fn measure(
+/// Fills a recorder up to a number, and times appends and selections there.
+pub(crate) fn measure(
     rt: &(impl Clock + Eprint + Print),
     alloc: Global,
-    recorder: &mut MemoryRecorder,
     upto: u64,
 ) -> anyhow::Result<()> {
-    let held = recorder.recordings()?;
-    append(alloc, recorder, held, upto)?;
+    let mut recorder = MemoryRecorder::new(alloc, (1 << 62) - 1);
+    append(alloc, &mut recorder, 0, upto)?;
     let before = Instant::now(rt)?;
-    append(alloc, recorder, upto, upto.saturating_add(TIMED))?;
+    append(alloc, &mut recorder, upto, upto.saturating_add(TIMED))?;
     let appends = rate(TIMED, before.elapsed(rt)?);
     let before = Instant::now(rt)?;
-    let found = select(recorder, upto)?;
+    let found = select(&mut recorder, upto)?;
     let selections = rate(2 * TIMED, before.elapsed(rt)?);
     println!(rt; "{upto} recordings: {TIMED} appended, {found} selected")?;
-    eprintln!(rt; "{upto:>9} {appends:>12} {selections:>14}")?;
-    Ok(())
-}
-
-fn main(rt: HostRuntime) -> anyhow::Result<()> {
-    let alloc = rt.alloc();
-    let mut recorder = MemoryRecorder::new(alloc, (1 << 62) - 1);
-    eprintln!(rt; "{:>9} {:>12} {:>14}", "held", "appends/s", "selections/s")?;
-    for word in env::args(&rt)?.skip(1) {
-        measure(&rt, alloc, &mut recorder, word.as_str().parse::<u64>()?)?;
-    }
+    eprintln!(rt;
+        "{:>12} {upto:>9} {appends:>12} {selections:>14}",
+        "recorders"
+    )?;
     Ok(())
 }
