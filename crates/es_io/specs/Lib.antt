@@ -4,3 +4,4 @@ pub mod Front
 pub mod LinesLeft
 pub mod Next
 pub mod Readings
+pub mod Remains

@@ -1,4 +1,4 @@
-ghost use Rattle.std.specs.Prelude.{◌≡◌, ◌≤◌, ◌<◌, ◌+◌, ◌-◌, ◌∷◌, [], ◌↔◌, IfOk, IfErr, OnOk, IfSome, OnErr, IsTrue, IsErrOf, None, Some, false, length, if◌then◌else◌, nat_lt};
+ghost use Rattle.std.specs.Prelude.{◌≡◌, ◌≤◌, ◌<◌, ◌+◌, ◌-◌, ◌∷◌, [], ◌↔◌, List, ℕ, IfOk, IfErr, OnOk, IfSome, OnErr, IsTrue, IsErrOf, None, Some, false, length, if◌then◌else◌, nat_lt};
 ghost use Rattle.std.specs.Io.{ReadsAtMost};
 ghost use Rattle.std.specs.Io.KnownBytes.{Keeps, Consumes, IsAtEnd, ReadConsumes};
 ghost use Rattle.es_model.specs.Causes.{Rose, HasCause};
@@ -36,12 +36,14 @@ struct Ahead<'a, S> {
 
 impl<'a, S: Source> Ahead<'a, S> {
     ghost use Rattle.es_io.specs.Ahead.{unread};
+    ghost use Rattle.es_io.specs.Remains.{MayHold, MayRemain};
 
     fn new(alloc: Global, source: &'a mut S) -> Result<Ahead<'a, S>, NoMemory>
         ensures same_reference { IfOk result (λ a. a.source.ghost_name ≡ source.entry.ghost_name) }
         ensures source { IfOk result (λ a. a.source.now ≡ source.old) }
         ensures unread { IfOk result (λ a. unread S.left a ≡ S.left source.old) }
         ensures empty { IfOk result (λ a. a.start ≡ a.end) }
+        ensures remains { IfOk result (λ a. (b : List ℕ) → MayRemain S.left a b → MayHold (S.left source.old) b) }
     {
         let piece = vec![in alloc; 0; PIECE]?;
         Ok(Ahead {
@@ -60,6 +62,8 @@ impl<'a, S: Source> Ahead<'a, S> {
         ensures keeps { Keeps (unread S.left self.old) (unread S.left self.new) }
         ensures more { IfOk result (λ more. IsTrue more ↔ (self.new.start < self.new.end)) }
         ensures end { result ≡ Ok false → IsAtEnd (unread S.left self.new) }
+        ensures remains { (b : List ℕ) → MayRemain S.left self.new b → MayRemain S.left self.old b }
+        ensures no_more { result ≡ Ok false → MayRemain S.left self.new [] }
         ensures bound { self.new.end - self.new.start ≤ most }
         ensures failed { OnErr result (self.new.start ≡ self.new.end) }
         ensures cause { HasCause (S.faults self.old.source.now) (S.faults self.new.source.now) result }
@@ -76,6 +80,7 @@ impl<'a, S: Source> Ahead<'a, S> {
         requires { self.old.start < self.old.end }
         ensures same_source { self.new.source ≡ self.old.source }
         ensures takes { Consumes (unread S.left self.old) (unread S.left self.new) (result ∷ []) }
+        ensures remains { (b : List ℕ) → MayRemain S.left self.new b → MayRemain S.left self.old (result ∷ b) }
         ensures one { (self.new.end - self.new.start) + 1 ≡ self.old.end - self.old.start }
     {
         let byte = self.piece[self.start];
@@ -138,12 +143,14 @@ pub struct Lines<'a, S> {
     ended: bool,
     fault: Option<LinesFault>,
     ghost bounded: { ahead.end - ahead.start ≤ room + 1 },
+    ghost spent: { IsTrue ended → ahead.start ≡ ahead.end },
 }
 
 impl<'a, S: Source> Lines<'a, S> {
     ghost use Rattle.es_io.specs.Ahead.{unread};
     ghost use Rattle.es_io.specs.LinesLeft.{lines_left, unread_of, room_of, may_take, has_ended, fault_of, source_of, IsOver, EndsRightly};
     ghost use Rattle.es_io.specs.Next.{IsNext, Uses, TakesRoom, EndsUnended, TakesAtMost};
+    ghost use Rattle.es_io.specs.Remains.{MayHold, MayRemain, MayHaveLeft, StepOf, FaultOf, lines_from};
     ghost use Rattle.es_model.specs.Lines.{lines_of};
     ghost use Rattle.std.specs.Option.{option_map};
 
@@ -163,6 +170,8 @@ impl<'a, S: Source> Lines<'a, S> {
         ensures bound { IfOk result (λ l. may_take l ≡ total_limit + 1) }
         ensures clear { IfOk result (λ l. fault_of l ≡ None) }
         ensures ends { IfOk result (λ l. EndsRightly S.left l) }
+        ensures remains { IfOk result (λ l. (b : List ℕ) → MayHaveLeft S.left l b → MayHold (S.left source.old) b) }
+        ensures lines_from { IfOk result (λ l. (b : List ℕ) → lines_from l b ≡ lines_of line_limit total_limit b) }
     {
         Ok(Lines {
             ahead: Ahead::new(alloc, source)?,
@@ -178,6 +187,9 @@ impl<'a, S: Source> Lines<'a, S> {
     pub fn into_source(self) -> &'a mut S
         ensures same_reference { result.ghost_name ≡ (source_of self.entry).ghost_name }
         ensures source { result.now ≡ (source_of self.entry).now }
+
+        // Something may be left.
+        ensures left { EndsRightly S.left self.entry → (b : List ℕ) × MayHaveLeft S.left self.entry b }
     {
         let Lines {
             ahead,
@@ -207,6 +219,10 @@ impl<'a, S: Source> Lines<'a, S> {
         ensures uses { EndsRightly S.left self.old → IfOk result (Uses (unread_of S.left self.old) (unread_of S.left self.new) (has_ended self.new)) }
         ensures room { IfOk result (TakesRoom (room_of self.old) (room_of self.new)) }
 
+        // The same where the bytes aren't told: whatever may be left after it, before it there may have been what it answers, and then this.
+        ensures step { IfOk result (λ s. (b : List ℕ) → MayHaveLeft S.left self.new b → StepOf S.left self.old self.new b s) }
+        ensures cut { (b : List ℕ) → MayHaveLeft S.left self.new b → OnErr result (FaultOf S.left self.old b) }
+
         // After `Over` each call answers that.
         ensures over { result ≡ Ok Step.Over → IsOver self.new }
         ensures over_stays { fault_of self.old ≡ None → IsOver self.old → result ≡ Ok Step.Over }
@@ -221,6 +237,9 @@ impl<'a, S: Source> Lines<'a, S> {
         // No line feed is left in what was taken and not answered.
         ensures unended { IsErrOf result LinesFault.Read → fault_of self.old ≡ None → EndsUnended (unread_of S.left self.old) (S.left (source_of self.new).now) }
         ensures not_ended { IsErrOf result LinesFault.Read → fault_of self.old ≡ None → has_ended self.old ≡ false }
+
+        // After a failed read nothing is read ahead: what the source may have left may be left.
+        ensures left { IsErrOf result LinesFault.Read → fault_of self.old ≡ None → (b : List ℕ) → MayHold (S.left (source_of self.new).now) b → MayHaveLeft S.left self.new b }
         ensures later { S.faults (source_of self.old).now ≤ S.faults (source_of self.new).now }
         ensures read { IsErrOf result LinesFault.Read → fault_of self.old ≡ None → Rose (S.faults (source_of self.old).now) (S.faults (source_of self.new).now) }
     {
@@ -244,11 +263,15 @@ impl<'a, S: Source> Lines<'a, S> {
 
     // Whether a byte is left, read ahead where need be.
     fn has_more(&mut self) -> Result<bool, Failed>
+        requires { self.old.ended ≡ false }
         ensures same_reference { self.new.ahead.source.ghost_name ≡ self.old.ahead.source.ghost_name }
         ensures keeps { Keeps (unread S.left self.old.ahead) (unread S.left self.new.ahead) }
         ensures more { IfOk result (λ more. IsTrue more ↔ (self.new.ahead.start < self.new.ahead.end)) }
         ensures end { result ≡ Ok false → IsAtEnd (unread S.left self.new.ahead) }
+        ensures remains { (b : List ℕ) → MayRemain S.left self.new.ahead b → MayRemain S.left self.old.ahead b }
+        ensures no_more { result ≡ Ok false → MayRemain S.left self.new.ahead [] }
         ensures failed { OnErr result (unread S.left self.new.ahead ≡ S.left self.new.ahead.source.now) }
+        ensures none_ahead { OnErr result (self.new.ahead.start ≡ self.new.ahead.end) }
         ensures bound { TakesAtMost (S.left self.old.ahead.source.now) (S.left self.new.ahead.source.now) (may_take self.old) (may_take self.new) }
         ensures line_limit { self.new.line_limit ≡ self.old.line_limit }
         ensures room { self.new.room ≡ self.old.room }
@@ -268,12 +291,16 @@ impl<'a, S: Source> Lines<'a, S> {
         ensures same_reference { self.new.ahead.source.ghost_name ≡ self.old.ahead.source.ghost_name }
         ensures next { IfOk result (IsNext (lines_left S.left self.old) (lines_left S.left self.new)) }
         ensures uses { IfOk result (Uses (unread S.left self.old.ahead) (unread S.left self.new.ahead) self.new.ended) }
+        ensures step { IfOk result (λ s. (b : List ℕ) → MayHaveLeft S.left self.new b → StepOf S.left self.old self.new b s) }
+        ensures cut { (b : List ℕ) → MayHaveLeft S.left self.new b → OnErr result (FaultOf S.left self.old b) }
         ensures ends { EndsRightly S.left self.new }
         ensures room { IfOk result (TakesRoom self.old.room self.new.room) }
         ensures over { result ≡ Ok Step.Over → IsOver self.new }
         ensures bound { TakesAtMost (S.left self.old.ahead.source.now) (S.left self.new.ahead.source.now) (may_take self.old) (may_take self.new) }
         ensures fault { self.new.fault ≡ self.old.fault }
         ensures unended { IsErrOf result LinesFault.Read → EndsUnended (unread S.left self.old.ahead) (S.left self.new.ahead.source.now) }
+        ensures none_ahead { IsErrOf result LinesFault.Read → self.new.ahead.start ≡ self.new.ahead.end }
+        ensures not_ended { OnErr result (self.new.ended ≡ false) }
         ensures later { S.faults self.old.ahead.source.now ≤ S.faults self.new.ahead.source.now }
         ensures read { IsErrOf result LinesFault.Read → Rose (S.faults self.old.ahead.source.now) (S.faults self.new.ahead.source.now) }
     {
