@@ -2,6 +2,8 @@ pub mod Causes
 pub mod Declaration
 pub mod History
 pub mod Lines
+pub mod Names
+pub mod OperatorWords
 pub mod Rising
 pub mod Scaled
 pub mod Snapshots

@@ -3,6 +3,7 @@ use Rattle.std.specs.Prelude.{ℕ, ◌≡◌, ◌≤◌, ◌<◌, ◌≤ℤ◌, 
 use Rattle.std.specs.Int.{w64}
 use Rattle.std.specs.List.{list_all}
 use Rattle.std.specs.Str.{IsUtf8, bytes_eq}
+use Rattle.es_model.specs.declared.limits.TheConstants.{MOST_TEXT_BYTES, MOST_ITEMS, MOST_PLACES}
 use Rattle.es_model.specs.declared.value.Atom.{Atom}
 use Rattle.es_model.specs.declared.value.Atom.TheVariants as atom
 use Rattle.es_model.specs.declared.value.Value.{Value}
@@ -32,27 +33,27 @@ IsValid (atom.Int number) = FitsSigned w64 number
 IsValid (atom.Text text) = IsUtf8 text
 IsValid (atom.Uuid id) = (length id ≡ 16) × All (λ b. b < 256) id
 IsValid (atom.Moment moment) = (pos 0 ≤ℤ moment) × (moment ≤ℤ pos 253402300799999999)
-IsValid (atom.Decimal decimal) = FitsSigned w64 decimal.digits × (decimal.scale ≤ 6)
+IsValid (atom.Decimal decimal) = FitsSigned w64 decimal.digits × (decimal.scale ≤ MOST_PLACES)
 
 -- each atom of a value is valid
 abbrev pub IsValidValue : Value → Type 0
 IsValidValue (value.One a) = IsValid a
 IsValidValue (value.List items) = All IsValid items
 
--- an atom is of a kind, with a text of at most 4,096 bytes; null is of none
+-- an atom is of a kind, with a text that isn't too long; null is of none
 abbrev pub atom_fits : Atom → AtomKind → Bool
 atom_fits (atom.Bool truth) atom_kind.Bool = true
 atom_fits (atom.Int number) atom_kind.Int = true
-atom_fits (atom.Text text) atom_kind.Text = nat_le (length text) 4096
+atom_fits (atom.Text text) atom_kind.Text = nat_le (length text) MOST_TEXT_BYTES
 atom_fits (atom.Uuid id) atom_kind.Uuid = true
 atom_fits (atom.Moment moment) atom_kind.Moment = true
 atom_fits (atom.Decimal decimal) atom_kind.Decimal = true
 atom_fits a k = false
 
--- a value is of a kind, with at most 256 items
+-- a value is of a kind, with a list that isn't too long
 abbrev pub fits : Value → Kind → Bool
 fits (value.One a) (kind.One k) = atom_fits a k
-fits (value.List items) (kind.List k) = nat_le (length items) 256 && list_all (λ a. atom_fits a k) items
+fits (value.List items) (kind.List k) = nat_le (length items) MOST_ITEMS && list_all (λ a. atom_fits a k) items
 fits v k = false
 
 -- a record has exactly these names, each with a value of its kind

@@ -3,7 +3,7 @@
 //!
 //! A contract sees a text or bytes as a list of numbers, a collection as the list of its items, and
 //! an event or a recording as the record of its fields. The definitions that contracts cite are in
-//! `specs/`: values and their kinds, names in rising order, when a call to the outside may fail,
+//! `specs/`: values and their kinds, how names are spelled, the words of operators, names in rising order, when a call to the outside may fail,
 //! histories, tracking, and the lines of an input.
 #![tactic(auto)]
 
@@ -14,10 +14,13 @@ mod domain_event;
 mod event;
 mod expr;
 mod faults;
+pub mod limits;
 mod list;
 mod lookup;
 mod memory;
 mod moment;
+pub mod names;
+pub mod operators;
 mod rising;
 mod snapshot;
 mod value;
@@ -66,6 +69,3 @@ pub type Moments = List<Moment>;
 
 /// Numbers of calls, counted from 1: those that an object in memory lets fail.
 pub type Calls = List<u64>;
-
-#[cfg(test)]
-mod tests;

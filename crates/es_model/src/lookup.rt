@@ -1,9 +1,11 @@
-ghost use Rattle.std.specs.Prelude.{◌≡◌, option_map, find};
+ghost use Rattle.std.specs.Prelude.{◌≡◌, IfOk, option_map, find};
 ghost use Rattle.std.specs.Option.{option_copied};
 ghost use Rattle.std.specs.Str.{bytes_eq};
-ghost use Rattle.es_model.specs.Declaration.{app_named, class_named, event_in, command_in, is_created, event_named};
+ghost use Rattle.es_model.specs.Declaration.{app_named, class_named, event_in, command_in, is_created, is_creating, event_named};
 
-use crate::{App, Class, CommandDef, EventClass, System};
+use crate::names::topic_of;
+use crate::{App, Class, CommandDef, EventClass, NoMemory, System, Trigger};
+use std::alloc::Global;
 
 // The event with a topic.
 fn event_with<'a>(events: &'a [EventClass], topic: &str) -> Option<&'a EventClass>
@@ -31,6 +33,20 @@ impl Class {
         self.created.topic.as_str() == topic
     }
 
+    /// Whether a command of this class with these triggers creates: its first trigger is the event which
+    /// creates aggregates.
+    pub fn is_creating(&self, alloc: Global, triggers: &[Trigger]) -> Result<bool, NoMemory>
+        ensures { IfOk result (λ creates. creates ≡ is_creating self.now triggers.now) }
+    {
+        match triggers {
+            [] => Ok(false),
+            [first, ..] => {
+                let topic = topic_of(alloc, self.name.as_str(), first.event.as_str())?;
+                Ok(self.is_created(topic.as_str()))
+            }
+        }
+    }
+
     /// The command of this class with a name.
     pub fn command(&self, name: &str) -> Option<&CommandDef>
         ensures { option_copied result ≡ command_in self.now name.now }
@@ -46,13 +62,12 @@ impl Class {
 fn event_among<'a>(classes: &'a [Class], topic: &str) -> Option<(&'a Class, &'a EventClass)>
     ensures { option_map (λ p. (p.0.now, p.1.now)) result ≡ event_named classes.now topic.now }
 {
-    match classes {
-        [] => None,
-        [class, rest @ ..] => match class.event(topic) {
-            Some(event) => Some((class, event)),
-            None => event_among(rest, topic),
-        },
+    for class in classes {
+        if let Some(event) = class.event(topic) {
+            return Some((class, event));
+        }
     }
+    None
 }
 
 impl System {

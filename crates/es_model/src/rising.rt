@@ -29,21 +29,21 @@ impl<T> Model for Rising<T> {
 }
 
 // How many names come before a name, which is its place.
-fn place_of<T>(entries: &[(Text, T)], name: &Text) -> usize
+fn place_of<T>(entries: &[(Text, T)], name: &str) -> usize
     ensures { result ≡ count_by (λ x. is_before x.0 name.now) entries.now }
 {
     entries
         .iter()
-        .filter(|entry| entry.0.as_str() < name.as_str())
+        .filter(|entry| entry.0.as_str() < name)
         .count()
 }
 
 // Whether the entry at a place has a name.
-fn is_at<T>(entries: &[(Text, T)], place: usize, name: &Text) -> bool
+fn is_at<T>(entries: &[(Text, T)], place: usize, name: &str) -> bool
     ensures { result ≡ has_name (slice_get entries.now place) name.now }
 {
     match entries.get(place) {
-        Some(entry) => entry.0.as_str() == name.as_str(),
+        Some(entry) => entry.0.as_str() == name,
         None => false,
     }
 }
@@ -65,13 +65,10 @@ impl<T> Rising<T> {
     }
 
     /// The item of a name.
-    pub fn get(&self, name: &Text) -> Option<&T>
+    pub fn get(&self, name: &str) -> Option<&T>
         ensures { option_copied result ≡ item_of self.now name.now }
     {
-        let entry = self
-            .entries
-            .iter()
-            .find(|entry| entry.0.as_str() == name.as_str())?;
+        let entry = self.entries.iter().find(|entry| entry.0.as_str() == name)?;
         Some(&entry.1)
     }
 
@@ -97,8 +94,8 @@ impl<T: Drop> Rising<T> {
         ensures ok { OnOk result (self.new ≡ with_item self.old name item) }
         ensures err { OnErr result (self.new ≡ self.old) }
     {
-        let place = place_of(self.entries.as_slice(), &name);
-        if is_at(self.entries.as_slice(), place, &name) {
+        let place = place_of(self.entries.as_slice(), name.as_str());
+        if is_at(self.entries.as_slice(), place, name.as_str()) {
             self.entries[place] = (name, item);
         } else {
             self.entries.insert(place, (name, item))?;
@@ -107,7 +104,7 @@ impl<T: Drop> Rising<T> {
     }
 
     /// Takes a name out.
-    pub fn remove(&mut self, name: &Text) -> Option<T>
+    pub fn remove(&mut self, name: &str) -> Option<T>
         ensures item { result ≡ item_of self.old name.now }
         ensures rest { self.new ≡ without self.old name.now }
     {

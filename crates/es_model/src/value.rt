@@ -2,18 +2,10 @@ ghost use Rattle.std.specs.Prelude.{◌≡◌, ◌≤◌, IsSome, IfSome, ◌↔
 ghost use Rattle.std.specs.List.{list_all};
 ghost use Rattle.es_model.specs.Values.{fits, atom_fits, are_of_kinds};
 
+use crate::limits::{MOST_ITEMS, MOST_PLACES, MOST_TEXT_BYTES};
 use crate::{Atoms, Duplicate, Fields, Kinds, Moment, NoMemory, Text};
 use std::marker::Model;
 use uuid::Uuid;
-
-// The most places that a decimal may have.
-const MOST_PLACES: u8 = 6;
-
-// The most bytes of a text that fits.
-const MOST_BYTES: usize = 4096;
-
-// The most items of a list that fits.
-const MOST_ITEMS: usize = 256;
 
 /// A whole number of units of which ten to the power `scale` make one.
 #[derive(Clone, Copy, Debug, PartialEq, Eq)]
@@ -30,14 +22,16 @@ impl Model for Decimal {
 
     ghost view = { λ d. record { digits = d.digits; scale = d.scale } };
 
-    ghost invariant = { λ d. d.scale ≤ 6 };
+    ghost use Rattle.es_model.specs.declared.limits.TheConstants.{MOST_PLACES};
+
+    ghost invariant = { λ d. d.scale ≤ MOST_PLACES };
 
     ghost inverse = { λ s. record { digits = s.digits; scale = s.scale } };
 }
 
 impl Decimal {
     pub fn new(digits: i64, scale: u8) -> Option<Decimal>
-        ensures range { IsSome result ↔ (scale ≤ 6) }
+        ensures range { IsSome result ↔ (scale ≤ MOST_PLACES) }
         ensures value { IfSome result (λ d. (d.digits ≡ digits) × (d.scale ≡ scale)) }
     {
         if scale <= MOST_PLACES {
@@ -55,7 +49,7 @@ impl Decimal {
 
     pub fn scale(self) -> u8
         ensures value { result ≡ self.scale }
-        ensures most { result ≤ 6 }
+        ensures most { result ≤ MOST_PLACES }
     {
         self.scale
     }
@@ -107,7 +101,7 @@ fn does_atom_fit(atom: &Atom, kind: AtomKind) -> bool
         | (Atom::Uuid(_), AtomKind::Uuid)
         | (Atom::Moment(_), AtomKind::Moment)
         | (Atom::Decimal(_), AtomKind::Decimal) => true,
-        (Atom::Text(text), AtomKind::Text) => text.as_str().len() <= MOST_BYTES,
+        (Atom::Text(text), AtomKind::Text) => text.as_str().len() <= MOST_TEXT_BYTES,
         _ => false,
     }
 }
