@@ -17,6 +17,3 @@ pub use fuse::FuseRecorder;
 pub use history::is_formed;
 pub use memory::MemoryRecorder;
 pub use memory_stores::MemoryStores;
-
-#[cfg(test)]
-mod tests;

@@ -6,9 +6,10 @@ ghost use Rattle.es_model.specs.History.{log, latest, IsFormed};
 ghost use Rattle.es_model.specs.Snapshots.{AreSnapshots, IsSmallSnapshot};
 ghost use Rattle.es_model.specs.Tracking.{tracked_in};
 ghost use Rattle.es_recorder.specs.HandedOut.{count_after};
+ghost use Rattle.es_recorder.specs.Keeps.{Keeps, KeepsHeld, KeepsRecordings, KeepsSnapshots};
 ghost use Rattle.es_recorder.specs.Puts.{PutsTold};
 ghost use Rattle.es_recorder.specs.Selections.{select_events, AreVersions, select_notifications, AreSelected, notification_of, tracks, snapshots_upto, IsNewest, snapshot_at};
-ghost use Rattle.es_recorder.specs.Stable.{KeepsStable, IsPrefixTold};
+ghost use Rattle.es_recorder.specs.Stable.{IsPrefixTold};
 
 use es_model::{CallFault, Notifications, Recording, Snapshot, StoredEvents, Text};
 use thiserror::Error;
@@ -73,54 +74,36 @@ pub trait AggregateRecorder {
     ) -> Result<StoredEvents, CallFault>
         ensures value { IfSome (history self.old) (λ h. IfOk result (λ es. es ≡ select_events (log h) id gt lte desc limit)) }
         ensures numbers { IfOk result (AreVersions limit) }
-        ensures same_history { history self.new ≡ history self.old }
-        ensures stable { KeepsStable (stable self.old) (stable self.new) result }
-        ensures same_snapshots { snapshots self.new ≡ snapshots self.old }
+        ensures same { KeepsHeld history stable snapshots capacity self.old self.new result }
         ensures selected { selected self.new ≡ count_after (selected self.old) result }
-        ensures same_capacity { capacity self.new ≡ capacity self.old }
         ensures cause { CallHasCause (faults self.old) (faults self.new) result };
 
     /// The number of events of an originator.
     fn latest_version(&mut self, id: Uuid) -> Result<u64, CallFault>
         ensures value { IfSome (history self.old) (λ h. IfOk result (λ version. version ≡ latest (log h) id)) }
         ensures small { IfOk result (λ version. version < 2 ^ 62) }
-        ensures same_history { history self.new ≡ history self.old }
-        ensures stable { KeepsStable (stable self.old) (stable self.new) result }
-        ensures same_snapshots { snapshots self.new ≡ snapshots self.old }
-        ensures same_selected { selected self.new ≡ selected self.old }
-        ensures same_capacity { capacity self.new ≡ capacity self.old }
+        ensures same { Keeps history stable snapshots selected capacity self.old self.new result }
         ensures cause { CallHasCause (faults self.old) (faults self.new) result };
 
     /// Puts a snapshot last, and takes away the one of the same aggregate and version.
     fn insert_snapshot(&mut self, snapshot: &Snapshot) -> Result<(), CallFault>
         requires { IsSmallSnapshot snapshot.now }
         ensures puts { PutsTold (snapshots self.old) snapshot.now (snapshots self.new) result }
-        ensures same_history { history self.new ≡ history self.old }
-        ensures stable { KeepsStable (stable self.old) (stable self.new) result }
-        ensures same_selected { selected self.new ≡ selected self.old }
-        ensures same_capacity { capacity self.new ≡ capacity self.old }
+        ensures same { KeepsRecordings history stable selected capacity self.old self.new result }
         ensures cause { CallHasCause (faults self.old) (faults self.new) result };
 
     /// The snapshot of an aggregate with the greatest version that is at most `lte`.
     fn select_snapshot(&mut self, id: Uuid, lte: Option<u64>) -> Result<Option<Snapshot>, CallFault>
         ensures value { IfSome (snapshots self.old) (λ ss. IfOk result (λ found. IsNewest (snapshots_upto ss id lte) found)) }
         ensures small { IfOk result (λ found. IfSome found IsSmallSnapshot) }
-        ensures same_history { history self.new ≡ history self.old }
-        ensures stable { KeepsStable (stable self.old) (stable self.new) result }
-        ensures same_snapshots { snapshots self.new ≡ snapshots self.old }
-        ensures same_selected { selected self.new ≡ selected self.old }
-        ensures same_capacity { capacity self.new ≡ capacity self.old }
+        ensures same { Keeps history stable snapshots selected capacity self.old self.new result }
         ensures cause { CallHasCause (faults self.old) (faults self.new) result };
 
     /// The snapshot at a place of the list, from 1.
     fn snapshot_at(&mut self, number: u64) -> Result<Option<Snapshot>, CallFault>
         ensures value { IfSome (snapshots self.old) (λ ss. IfOk result (λ found. found ≡ snapshot_at ss number)) }
         ensures small { IfOk result (λ found. IfSome found IsSmallSnapshot) }
-        ensures same_history { history self.new ≡ history self.old }
-        ensures stable { KeepsStable (stable self.old) (stable self.new) result }
-        ensures same_snapshots { snapshots self.new ≡ snapshots self.old }
-        ensures same_selected { selected self.new ≡ selected self.old }
-        ensures same_capacity { capacity self.new ≡ capacity self.old }
+        ensures same { Keeps history stable snapshots selected capacity self.old self.new result }
         ensures cause { CallHasCause (faults self.old) (faults self.new) result };
 
     /// A history that is told is formed.
@@ -139,44 +122,29 @@ pub trait ApplicationRecorder: AggregateRecorder {
     fn select_notifications(&mut self, start: u64, limit: u64) -> Result<Notifications, CallFault>
         ensures value { IfSome (Self.history self.old) (λ h. IfOk result (λ ns. ns ≡ select_notifications (log h) start limit)) }
         ensures numbers { IfOk result (AreSelected start limit) }
-        ensures same_history { Self.history self.new ≡ Self.history self.old }
-        ensures stable { KeepsStable (Self.stable self.old) (Self.stable self.new) result }
-        ensures same_snapshots { Self.snapshots self.new ≡ Self.snapshots self.old }
+        ensures same { KeepsHeld Self.history Self.stable Self.snapshots Self.capacity self.old self.new result }
         ensures selected { Self.selected self.new ≡ count_after (Self.selected self.old) result }
-        ensures same_capacity { Self.capacity self.new ≡ Self.capacity self.old }
         ensures cause { CallHasCause (Self.faults self.old) (Self.faults self.new) result };
 
     /// The length of the log.
     fn max_notification_id(&mut self) -> Result<u64, CallFault>
         ensures value { IfSome (Self.history self.old) (λ h. IfOk result (λ id. id ≡ length (log h))) }
         ensures small { IfOk result (λ id. id < 2 ^ 62) }
-        ensures same_history { Self.history self.new ≡ Self.history self.old }
-        ensures stable { KeepsStable (Self.stable self.old) (Self.stable self.new) result }
-        ensures same_snapshots { Self.snapshots self.new ≡ Self.snapshots self.old }
-        ensures same_selected { Self.selected self.new ≡ Self.selected self.old }
-        ensures same_capacity { Self.capacity self.new ≡ Self.capacity self.old }
+        ensures same { Keeps Self.history Self.stable Self.snapshots Self.selected Self.capacity self.old self.new result }
         ensures cause { CallHasCause (Self.faults self.old) (Self.faults self.new) result };
 
     /// The notification id of an originator's event of a version, which is its place in the log.
     fn notification_of(&mut self, id: Uuid, version: u64) -> Result<Option<u64>, CallFault>
         ensures value { IfSome (Self.history self.old) (λ h. IfOk result (λ found. found ≡ notification_of (log h) id version)) }
         ensures small { IfOk result (λ found. IfSome found (λ n. n < 2 ^ 62)) }
-        ensures same_history { Self.history self.new ≡ Self.history self.old }
-        ensures stable { KeepsStable (Self.stable self.old) (Self.stable self.new) result }
-        ensures same_snapshots { Self.snapshots self.new ≡ Self.snapshots self.old }
-        ensures same_selected { Self.selected self.new ≡ Self.selected self.old }
-        ensures same_capacity { Self.capacity self.new ≡ Self.capacity self.old }
+        ensures same { Keeps Self.history Self.stable Self.snapshots Self.selected Self.capacity self.old self.new result }
         ensures cause { CallHasCause (Self.faults self.old) (Self.faults self.new) result };
 
     /// The length of the history.
     fn recordings(&mut self) -> Result<u64, CallFault>
         ensures value { IfSome (Self.history self.old) (λ h. IfOk result (λ n. n ≡ length h)) }
         ensures small { IfOk result (λ n. n < 2 ^ 62) }
-        ensures same_history { Self.history self.new ≡ Self.history self.old }
-        ensures stable { KeepsStable (Self.stable self.old) (Self.stable self.new) result }
-        ensures same_snapshots { Self.snapshots self.new ≡ Self.snapshots self.old }
-        ensures same_selected { Self.selected self.new ≡ Self.selected self.old }
-        ensures same_capacity { Self.capacity self.new ≡ Self.capacity self.old }
+        ensures same { Keeps Self.history Self.stable Self.snapshots Self.selected Self.capacity self.old self.new result }
         ensures cause { CallHasCause (Self.faults self.old) (Self.faults self.new) result };
 }
 
@@ -188,21 +156,13 @@ pub trait ProcessRecorder: ApplicationRecorder {
     fn max_tracking_id(&mut self, leader: &Text) -> Result<u64, CallFault>
         ensures value { IfSome (Self.history self.old) (λ h. IfOk result (λ id. id ≡ tracked_in h leader.now)) }
         ensures small { IfOk result (λ id. id < 2 ^ 62) }
-        ensures same_history { Self.history self.new ≡ Self.history self.old }
-        ensures stable { KeepsStable (Self.stable self.old) (Self.stable self.new) result }
-        ensures same_snapshots { Self.snapshots self.new ≡ Self.snapshots self.old }
-        ensures same_selected { Self.selected self.new ≡ Self.selected self.old }
-        ensures same_capacity { Self.capacity self.new ≡ Self.capacity self.old }
+        ensures same { Keeps Self.history Self.stable Self.snapshots Self.selected Self.capacity self.old self.new result }
         ensures cause { CallHasCause (Self.faults self.old) (Self.faults self.new) result };
 
     /// Whether a cause is this notification of a leader.
     fn has_tracking_id(&mut self, leader: &Text, id: u64) -> Result<bool, CallFault>
         ensures value { IfSome (Self.history self.old) (λ h. IfOk result (λ found. found ≡ tracks h leader.now id)) }
-        ensures same_history { Self.history self.new ≡ Self.history self.old }
-        ensures stable { KeepsStable (Self.stable self.old) (Self.stable self.new) result }
-        ensures same_snapshots { Self.snapshots self.new ≡ Self.snapshots self.old }
-        ensures same_selected { Self.selected self.new ≡ Self.selected self.old }
-        ensures same_capacity { Self.capacity self.new ≡ Self.capacity self.old }
+        ensures same { Keeps Self.history Self.stable Self.snapshots Self.selected Self.capacity self.old self.new result }
         ensures cause { CallHasCause (Self.faults self.old) (Self.faults self.new) result };
 
     /// Adds a recording whole, or refuses it. A recorder that doesn't tell its history counts what
@@ -211,9 +171,7 @@ pub trait ProcessRecorder: ApplicationRecorder {
         requires { IsInsertable recording.now }
         ensures inserts { InsertsTold (Self.capacity self.old) (Self.history self.old) recording.now (Self.history self.new) result }
         ensures stable { StableAfter (Self.stable self.old) (Self.stable self.new) (Self.history self.new) result }
-        ensures same_snapshots { Self.snapshots self.new ≡ Self.snapshots self.old }
-        ensures same_selected { Self.selected self.new ≡ Self.selected self.old }
-        ensures same_capacity { Self.capacity self.new ≡ Self.capacity self.old }
+        ensures same { KeepsSnapshots Self.snapshots Self.selected Self.capacity self.old self.new }
         ensures small { IsSmall result }
         ensures full { PassesCapacity (Self.capacity self.old) recording.now result }
         ensures refuses { RefusesTold (Self.history self.old) result }
