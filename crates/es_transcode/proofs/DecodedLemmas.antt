@@ -260,6 +260,16 @@ text-of-tree : (b : Bool) (o : Option Data) (d : Data) → (if b then o else Non
 text-of-tree true o d is = (refl, is)
 text-of-tree false o d is = cc
 
+pub found-tree : (bytes : List ℕ) (d : Data) → tree_in bytes ≡ Some d → IsTreeOf bytes d
+found-tree bytes d is =
+    let parts = text-of-tree (is_utf8 bytes) (read bytes) d is in
+    (IsUtf8-from_is_utf8 bytes parts.0, parts.1)
+
+pub no-tree : (bytes : List ℕ) → tree_in bytes ≡ None → (d : Data) → IsTreeOf bytes d → ⊥
+no-tree bytes is d tree =
+    let both : None ≡ Some d = sym is ∙ tree-of-text (is_utf8 bytes) (read bytes) d (is_utf8-from_IsUtf8 bytes tree.0) tree.1 in
+    absurd (cc both)
+
 pub record-of-decoded : (bytes : List ℕ) (r : Record) → IsDecoded bytes (Ok r) → record_of bytes ≡ Some r
 record-of-decoded bytes r (d, tree, is) = ap (option_and_then record_in) (tree-of-text (is_utf8 bytes) (read bytes) d (is_utf8-from_IsUtf8 bytes tree.0) tree.1) ∙ record-of-tree d r is
 
@@ -270,8 +280,7 @@ from-tree (Some d) r is = (d, refl, tree-of-record d r is)
 pub decoded-of-record : (bytes : List ℕ) (r : Record) → record_of bytes ≡ Some r → IsDecoded bytes (Ok r)
 decoded-of-record bytes r is =
     let found = from-tree (tree_in bytes) r is in
-    let parts = text-of-tree (is_utf8 bytes) (read bytes) found.0 found.1 in
-    (found.0, (IsUtf8-from_is_utf8 bytes parts.0, parts.1), found.2)
+    (found.0, found-tree bytes found.0 found.1, found.2)
 
 pub no-record-of : (bytes : List ℕ) (f : DecodeFault) → f ≢ fault.NoMemory → IsDecoded bytes (Err f) → record_of bytes ≡ None
 no-record-of bytes f real bad = nothing (record_of bytes) (λ r is. no-fault bytes r f (decoded-of-record bytes r is) real bad)

@@ -7,6 +7,7 @@ ghost use Rattle.es_transcode.specs.Texts.{kind_of, HasText};
 ghost use Rattle.es_transcode.specs.RecordText.{IsAtomTree, AreAtomTrees, IsValueTree, AreMembers, IsRecordTree};
 ghost use Rattle.es_transcode.specs.Decoding.{kind_named, AreTwo, IsPairOrNone, IsTextOfKind, IsTagFault, IsAtomFault, IsItemsFault, IsValueFault, IsMembersFault, IsRecordFault, IsDecoded, Decodes};
 
+use crate::tree::read_tree;
 use crate::{DecodeFault, datetime, decimal, hex};
 use es_model::{Atom, AtomKind, Atoms, Fields, List, NoMemory, Text, Value};
 use serde_json::Value as Tree;
@@ -157,17 +158,8 @@ pub fn decode_record(alloc: Global, bytes: &[u8]) -> Result<Fields, DecodeFault>
     ensures one { IfOk result (λ r. (s : Record) → IsDecoded bytes.now (Ok s) → r ≡ s) }
     ensures none { IfErr result (λ f. f ≢ faults.NoMemory → (r : Record) → ¬ IsDecoded bytes.now (Ok r)) }
 {
-    let Ok(text) = str::from_utf8(bytes) else {
-        return Err(DecodeFault::NotJson);
-    };
-    match Tree::from_str(alloc, text) {
-        Ok(tree) => decode_tree(alloc, &tree),
-        Err(error) => {
-            if error.is_memory() {
-                Err(DecodeFault::NoMemory)
-            } else {
-                Err(DecodeFault::NotJson)
-            }
-        }
+    match read_tree(alloc, bytes)? {
+        Some(tree) => decode_tree(alloc, &tree),
+        None => Err(DecodeFault::NotJson),
     }
 }

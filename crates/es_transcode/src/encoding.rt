@@ -25,7 +25,7 @@ fn atom_tree(alloc: Global, atom: &Atom) -> Result<serde_json::Value, NoMemory>
         Atom::Int(number) => Ok(serde_json::Value::from(*number)),
         Atom::Text(text) => Ok(serde_json::Value::String(String::from_str(alloc, text.as_str())?)),
         Atom::Uuid(id) => {
-            let text = hex::text_of(alloc, id)?;
+            let text = hex::id_text(alloc, id)?;
             tag(alloc, "uuid_hex", text.as_str())
         }
         Atom::Moment(moment) => {

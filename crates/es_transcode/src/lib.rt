@@ -14,11 +14,11 @@ mod encoding;
 mod fault;
 mod hex;
 mod transcoding;
+mod tree;
 
 pub use decoding::{decode_record, decode_tree};
 pub use encoding::{encode_record, encode_tree};
 pub use fault::DecodeFault;
+pub use hex::{id_of, id_text};
 pub use transcoding::{DatetimeAsIso, DecimalAsStr, Transcoding, UuidAsHex};
-
-#[cfg(test)]
-mod tests;
+pub use tree::read_tree;

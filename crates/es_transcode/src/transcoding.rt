@@ -50,7 +50,7 @@ impl Transcoding for UuidAsHex {
 
     fn encode(&self, alloc: Global, atom: &Atom) -> Result<Text, NoMemory> {
         match atom {
-            Atom::Uuid(id) => hex::text_of(alloc, id),
+            Atom::Uuid(id) => hex::id_text(alloc, id),
             _ => unreachable!(),
         }
     }
