@@ -16,6 +16,3 @@ pub use domain::to_domain;
 pub use edits::upcast;
 pub use fault::MapFault;
 pub use stored::to_stored;
-
-#[cfg(test)]
-mod tests;
