@@ -12,7 +12,7 @@ use Rattle.es_model.specs.declared.value.Value.{Value}
 use Rattle.es_model.specs.declared.value.Value.TheVariants as value
 use Rattle.es_transcode.specs.Texts.{HasText}
 use Rattle.es_transcode.specs.RecordText.{tagged, IsAtomTree, AreAtomTrees, IsValueTree, AreMembers, IsRecordTree, IsRecordText}
-use Rattle.es_transcode.specs.CanonicalText.{atom_text, atom_tree, item_trees, value_tree, member_trees, record_tree, record_text, AreValidValues}
+use Rattle.es_transcode.specs.CanonicalText.{atom_text, atom_tree, item_trees, value_tree, member_trees, record_tree, record_text}
 use Rattle.es_transcode.proofs.MomentLemmas.{only-moment_text, moment_text-is}
 
 -- there is no other text, and no other tree
@@ -76,6 +76,11 @@ item_trees-are (a ∷ items) valid = (atom_tree-is a (All-head IsValid a items v
 pub value_tree-is : (v : Value) → IsValidValue v → IsValueTree v (value_tree v)
 value_tree-is (value.One a) valid = atom_tree-is a valid
 value_tree-is (value.List items) valid = (item_trees items, item_trees-are items valid, refl)
+
+-- each value of a record is valid
+abbrev pub AreValidValues : Record → Type 0
+AreValidValues [] = Unit {0}
+AreValidValues (x ∷ xs) = IsValidValue x.1 × AreValidValues xs
 
 member_trees-are : (r : Record) → AreValidValues r → AreMembers r (member_trees r)
 member_trees-are [] valid = tt

@@ -7,7 +7,8 @@ use Rattle.es_model.specs.Scaled.{Scaled}
 use Rattle.es_transcode.proofs.DigitsLemmas.{length-padded}
 use Rattle.es_transcode.proofs.CivilLemmas.{IsRead}
 use Rattle.es_transcode.specs.Padded.{padded}
-use Rattle.es_transcode.specs.Texts.{sign, places_text, decimal_text, point_of, IsUnsigned}
+use Rattle.es_transcode.specs.Texts.{sign, places_text, decimal_text, point_of}
+use Rattle.es_transcode.specs.inner.Unsigned.{IsUnsigned}
 
 -- each byte is above those of a sign and a point
 abbrev pub AboveSigns : List ℕ → Type 0

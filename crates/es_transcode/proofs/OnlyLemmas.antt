@@ -18,7 +18,8 @@ use Rattle.es_transcode.specs.declared.civil.Civil.{Civil}
 use Rattle.es_transcode.specs.declared.fault.DecodeFault.{DecodeFault}
 use Rattle.es_transcode.specs.CivilText.{IsCivil, IsMomentText, iso_text, micros_of}
 use Rattle.es_transcode.specs.Padded.{padded}
-use Rattle.es_transcode.specs.Texts.{IsUnsigned, decimal_text, point_of}
+use Rattle.es_transcode.specs.Texts.{decimal_text, point_of}
+use Rattle.es_transcode.specs.inner.Unsigned.{IsUnsigned}
 use Rattle.es_transcode.specs.RecordText.{tagged, IsTagged, IsAtomTree, AreAtomTrees, IsValueTree, AreMembers, IsRecordTree}
 use Rattle.es_transcode.specs.Decoding.{IsDecoded}
 use Rattle.es_transcode.proofs.CivilLemmas as civil

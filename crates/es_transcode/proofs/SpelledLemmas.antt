@@ -12,7 +12,8 @@ use Rattle.es_model.specs.Scaled.{Scaled}
 use Rattle.es_transcode.specs.declared.civil.Civil.{Civil}
 use Rattle.es_transcode.specs.Padded.{padded}
 use Rattle.es_transcode.specs.CivilText.{IsCivil, IsMomentText, micros_of, iso_text}
-use Rattle.es_transcode.specs.Texts.{decimal_text, point_of, IsUnsigned}
+use Rattle.es_transcode.specs.Texts.{decimal_text, point_of}
+use Rattle.es_transcode.specs.inner.Unsigned.{IsUnsigned}
 use Rattle.es_transcode.specs.Spelled.{number_from, number_in, civil_in, is_civil, is_moment, moment_at, moment_in, is_negative, unsigned, signed, whole_in, places_in, scaled_by, scaled_in, is_scaled, decimal_at, decimal_in}
 use Rattle.es_transcode.proofs.DigitsLemmas.{length-padded}
 use Rattle.es_transcode.proofs.CivilLemmas.{IsRead, year, month, day, hour, minute, second, micros}

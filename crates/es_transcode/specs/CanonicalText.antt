@@ -4,7 +4,7 @@ use Rattle.serde_json.specs.Data.{Data, null, boolean, number, string, array, ob
 use Rattle.serde_json.specs.Find.{of_integer}
 use Rattle.serde_json.specs.Written.{compact_text}
 use Rattle.uuid.specs.Text.{simple_text, lower}
-use Rattle.es_model.specs.Values.{Record, IsValidValue}
+use Rattle.es_model.specs.Values.{Record}
 use Rattle.es_model.specs.declared.value.Atom.{Atom}
 use Rattle.es_model.specs.declared.value.Atom.TheVariants as atom
 use Rattle.es_model.specs.declared.value.Value.{Value}
@@ -51,8 +51,3 @@ record_tree r = object (member_trees r)
 -- the tree's text, with no space and the shortest escapes
 unfoldable pub record_text : Record → List ℕ
 record_text r = compact_text (record_tree r)
-
--- each value of a record is valid
-abbrev pub AreValidValues : Record → Type 0
-AreValidValues [] = Unit {0}
-AreValidValues (x ∷ xs) = IsValidValue x.1 × AreValidValues xs

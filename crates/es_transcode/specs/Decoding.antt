@@ -68,16 +68,6 @@ Decodes reads faults (Ok a) = reads a
 Decodes reads faults (Err fault.NoMemory) = Unit {0}
 Decodes reads faults (Err f) = faults f
 
--- the two members that a body has found, if there are exactly two
-abbrev pub AreTwo : Option ((List ℕ × Data) × (List ℕ × Data)) → Members → Type 0
-AreTwo (Some p) ms = ms ≡ member p.0.0 p.0.1 (member p.1.0 p.1.1 no_members)
-AreTwo None ms = (k l : List ℕ) (d e : Data) → ms ≡ member k d (member l e no_members) → ⊥
-
--- the data and the word that a body has found, if there is exactly this pair
-abbrev pub IsPairOrNone : Option (Data × List ℕ) → Members → Type 0
-IsPairOrNone (Some p) ms = ms ≡ pair p.0 p.1
-IsPairOrNone None ms = (d : Data) (word : List ℕ) → ms ≡ pair d word → ⊥
-
 -- an answer to bytes: the record of their tree, that they have no tree, a fault of their tree, or want of memory
 abbrev pub IsDecoded : List ℕ → Result Record DecodeFault → Type 0
 IsDecoded bytes (Ok r) = (d : Data) × IsTreeOf bytes d × IsRecordTree r d

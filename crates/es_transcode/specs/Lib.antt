@@ -7,3 +7,4 @@ pub mod Padded
 pub mod RecordText
 pub mod Spelled
 pub mod Texts
+pub mod inner

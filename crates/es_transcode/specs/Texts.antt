@@ -1,5 +1,5 @@
 -- The texts of ids, moments and decimals.
-use Rattle.std.specs.Prelude.{ℕ, suc, Bool, false, ◌∷◌, ◌≡◌, ◌/◌, ◌%◌, ◌^◌, ◌==◌, ℤ, pos, negsuc, unsigned_abs, List, [], ◌++◌, codes, decimal, if◌then◌else◌, Option, None, Some}
+use Rattle.std.specs.Prelude.{ℕ, suc, ◌∷◌, ◌≡◌, ◌/◌, ◌%◌, ◌^◌, ◌==◌, ℤ, pos, negsuc, unsigned_abs, List, [], ◌++◌, codes, decimal, if◌then◌else◌, Option, None, Some}
 use Rattle.uuid.specs.Text.{simple_text, lower, parsed}
 use Rattle.es_model.specs.Scaled.{Scaled}
 use Rattle.es_model.specs.Values.{IsValid}
@@ -36,11 +36,6 @@ decimal_text d = sign d.digits ++ decimal (unsigned_abs d.digits / 10 ^ d.scale)
 abbrev pub point_of : List ℕ → ℕ
 point_of [] = 0
 point_of (b ∷ bs) = if b == 46 then 0 else suc (point_of bs)
-
--- a text begins with a minus, or doesn't, and what is left without it
-abbrev pub IsUnsigned : List ℕ → Bool → List ℕ → Type 0
-IsUnsigned [] negative rest = (negative ≡ false) × (rest ≡ [])
-IsUnsigned (b ∷ bs) negative rest = (negative ≡ b == 45) × (rest ≡ (if b == 45 then bs else b ∷ bs))
 
 -- an atom has a text: the digits that are read as an id, or the text of a moment or a decimal in range
 abbrev pub HasText : Atom → List ℕ → Type 0

@@ -3,7 +3,8 @@ ghost use Rattle.std.specs.Int.{w64};
 ghost use Rattle.es_model.specs.declared.value.Atom.TheVariants as atoms;
 ghost use Rattle.es_model.specs.Scaled.{Scaled};
 ghost use Rattle.es_model.specs.Values.{IsValid};
-ghost use Rattle.es_transcode.specs.Texts.{sign, places_text, decimal_text, point_of, IsUnsigned};
+ghost use Rattle.es_transcode.specs.Texts.{sign, places_text, decimal_text, point_of};
+ghost use Rattle.es_transcode.specs.inner.Unsigned.{IsUnsigned};
 ghost use Rattle.es_transcode.specs.Padded.{padded};
 
 use crate::digits::{number_of, push_digits};

@@ -5,7 +5,8 @@ ghost use Rattle.es_model.specs.Values.{Record};
 ghost use Rattle.es_transcode.specs.declared.fault.DecodeFault.TheVariants as faults;
 ghost use Rattle.es_transcode.specs.Texts.{kind_of, HasText};
 ghost use Rattle.es_transcode.specs.RecordText.{IsAtomTree, AreAtomTrees, IsValueTree, AreMembers, IsRecordTree};
-ghost use Rattle.es_transcode.specs.Decoding.{kind_named, AreTwo, IsPairOrNone, IsTextOfKind, IsTagFault, IsAtomFault, IsItemsFault, IsValueFault, IsMembersFault, IsRecordFault, IsDecoded, Decodes};
+ghost use Rattle.es_transcode.specs.inner.Pairs.{AreTwo, IsPairOrNone};
+ghost use Rattle.es_transcode.specs.Decoding.{kind_named, IsTextOfKind, IsTagFault, IsAtomFault, IsItemsFault, IsValueFault, IsMembersFault, IsRecordFault, IsDecoded, Decodes};
 
 use crate::tree::read_tree;
 use crate::{DecodeFault, datetime, decimal, hex};
