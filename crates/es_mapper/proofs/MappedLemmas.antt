@@ -17,11 +17,11 @@ use Rattle.es_model.specs.declared.domain_event.DomainEvent.{DomainEvent}
 use Rattle.es_model.specs.declared.event.StoredEvent.{StoredEvent}
 use Rattle.es_transcode.specs.Decoded.{record_of}
 use Rattle.es_transcode.proofs.DecodedLemmas.{record-of-decoded, decoded-of-record}
-use Rattle.es_mapper.specs.Mapping.{version_of, class_value, IsVersion, HasHead, fields_of, IsStored, IsEvent, IsDeclared, IsMapped}
+use Rattle.es_mapper.specs.Mapping.{version_of, class_value, IsVersion, HasHead, fields_of, IsEvent, IsDeclared, IsMapped}
 use Rattle.es_mapper.specs.Mapped.{at_least_one, version_in, moment_in, is_class_in, event_with, event_at, event_in_state, event_by, event_of, Gives}
 use Rattle.es_mapper.specs.declared.fault.MapFault.{MapFault}
 use Rattle.es_mapper.specs.declared.fault.MapFault.TheVariants as fault
-use Rattle.es_mapper.proofs.MappingLemmas.{stored-event, mapped-none}
+use Rattle.es_mapper.proofs.MappingLemmas.{IsStored, stored-event, mapped-none}
 
 same : (t : List ℕ) → bytes_eq t t ≡ true
 same t = (bytes_eq-Decides t t).1 refl

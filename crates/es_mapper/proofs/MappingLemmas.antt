@@ -23,9 +23,16 @@ use Rattle.es_transcode.specs.RecordText.{IsRecordText}
 use Rattle.es_transcode.proofs.FaultLemmas.{no-fault}
 use Rattle.es_transcode.proofs.OnlyLemmas.{one-decoded}
 use Rattle.es_mapper.proofs.UpcastsLemmas.{alone}
-use Rattle.es_mapper.specs.Mapping.{version_of, steps_from, upcast_by, class_value, version_value, with_some, stamped, state_record, state_of, IsStored, IsVersion, HasHead, without_head, fields_of, IsRead, IsEvent, IsDeclared, IsHeadless, IsMisfit, IsMapFault, IsMapped}
+use Rattle.es_mapper.specs.Mapping.{version_of, steps_from, upcast_by, class_value, version_value, with_some, stamped, state_record, state_of, IsVersion, HasHead, without_head, fields_of, IsRead, IsEvent, IsDeclared, IsHeadless, IsMisfit, IsMapFault, IsMapped}
 use Rattle.es_mapper.specs.declared.fault.MapFault.{MapFault}
 use Rattle.es_mapper.specs.declared.fault.MapFault.TheVariants as fault
+
+-- a stored event is that of an event
+pub record IsStored (sys : System) (e : DomainEvent) (s : StoredEvent) : Type 0 where
+  pub originator_id : s.originator_id ≡ e.originator_id
+  pub originator_version : s.originator_version ≡ e.originator_version
+  pub topic : s.topic ≡ e.topic
+  pub state : IsRecordText (state_of (event_named sys.classes e.topic) e) s.state
 
 -- ---- a record of declared fields has no name that isn't declared
 

@@ -14,7 +14,6 @@ use Rattle.es_model.specs.declared.domain_event.DomainEvent.{DomainEvent}
 use Rattle.es_model.specs.declared.event.StoredEvent.{StoredEvent}
 use Rattle.es_transcode.specs.CanonicalText.{record_text}
 use Rattle.es_transcode.specs.Decoding.{IsDecoded}
-use Rattle.es_transcode.specs.RecordText.{IsRecordText}
 use Rattle.es_transcode.specs.declared.fault.DecodeFault.TheVariants as decode_fault
 use Rattle.es_mapper.specs.Upcasts.{edited_by}
 use Rattle.es_mapper.specs.declared.fault.MapFault.{MapFault}
@@ -67,13 +66,6 @@ stored sys e = record {
   topic = e.topic;
   state = record_text (state_of (event_named sys.classes e.topic) e);
 }
-
--- a stored event is that of an event
-pub record IsStored (sys : System) (e : DomainEvent) (s : StoredEvent) : Type 0 where
-  pub originator_id : s.originator_id ≡ e.originator_id
-  pub originator_version : s.originator_version ≡ e.originator_version
-  pub topic : s.topic ≡ e.topic
-  pub state : IsRecordText (state_of (event_named sys.classes e.topic) e) s.state
 
 -- a class version as it stands in a state: 1 where none stands there, else a whole number of at least 1
 abbrev pub IsVersion : ℕ → Option Value → Type 0

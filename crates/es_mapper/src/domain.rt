@@ -13,19 +13,18 @@ use crate::stored::declared_version;
 use crate::{MapFault, upcast};
 use es_model::{
     Class, DomainEvent, Duplicate, Edit, EventClass, Fields, List, Moment, NoMemory, StoredEvent,
-    System, Text, are_of_kinds,
+    System, are_of_kinds,
 };
 use es_transcode::{DecodeFault, decode_record};
 use std::alloc::Global;
 
 // Takes out the three members that stand in a state beside the fields.
-fn take_head(alloc: Global, fields: &mut Fields) -> Result<(), NoMemory>
-    ensures { OnOk result (fields.new ≡ without_head fields.old) }
+fn take_head(fields: &mut Fields)
+    ensures { fields.new ≡ without_head fields.old }
 {
-    fields.remove(&Text::from_str(alloc, "class_version")?);
-    fields.remove(&Text::from_str(alloc, "originator_topic")?);
-    fields.remove(&Text::from_str(alloc, "timestamp")?);
-    Ok(())
+    fields.remove("class_version");
+    fields.remove("originator_topic");
+    fields.remove("timestamp");
 }
 
 fn upcast_by(steps: &[List<Edit>], fields: &mut Fields) -> Result<(), NoMemory>
@@ -38,18 +37,13 @@ fn upcast_by(steps: &[List<Edit>], fields: &mut Fields) -> Result<(), NoMemory>
 }
 
 // The fields of a state of a class version, as those of the declared version.
-fn fields_of(
-    alloc: Global,
-    event: &EventClass,
-    version: u64,
-    state: Fields,
-) -> Result<Fields, NoMemory>
+fn fields_of(event: &EventClass, version: u64, state: Fields) -> Result<Fields, NoMemory>
     requires first { 1 ≤ version }
     requires last { version ≤ version_of event.now }
     ensures { IfOk result (λ r. r ≡ fields_of event.now version state) }
 {
     let mut fields = state;
-    take_head(alloc, &mut fields)?;
+    take_head(&mut fields);
     upcast_by(
         &event.upcasts.as_slice()[(version - 1) as usize..],
         &mut fields,
@@ -59,7 +53,6 @@ fn fields_of(
 
 // The domain event of a stored one whose state has these three members.
 fn with_fields(
-    alloc: Global,
     event: &EventClass,
     stored: &StoredEvent,
     head: (u64, Moment),
@@ -69,7 +62,7 @@ fn with_fields(
     requires last { head.0 ≤ version_of event.now }
     ensures { (sys : system_type.System) (c : class_type.Class) → IsHeaded sys stored.now c event.now state head.0 head.1 → IsMapped sys stored.now result }
 {
-    let fields = fields_of(alloc, event, head.0, state)?;
+    let fields = fields_of(event, head.0, state)?;
     if !are_of_kinds(&fields, &event.fields) {
         return Err(MapFault::Fields);
     }
@@ -84,7 +77,6 @@ fn with_fields(
 
 // The domain event of a stored one whose state is read as a record.
 fn with_state(
-    alloc: Global,
     class: &Class,
     event: &EventClass,
     stored: &StoredEvent,
@@ -102,7 +94,7 @@ fn with_state(
             declared,
         });
     }
-    with_fields(alloc, event, stored, head, state)
+    with_fields(event, stored, head, state)
 }
 
 // How a fault of a state is told. Want of memory is told as itself.
@@ -126,7 +118,7 @@ fn with_class(
     ensures { (sys : system_type.System) → event_named sys.classes stored.now.topic ≡ Some (class.now, event.now) → IsMapped sys stored.now result }
 {
     match decode_record(alloc, stored.state.as_slice()) {
-        Ok(state) => with_state(alloc, class, event, stored, state),
+        Ok(state) => with_state(class, event, stored, state),
         Err(fault) => Err(refusal_of(fault)),
     }
 }

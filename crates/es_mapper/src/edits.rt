@@ -9,12 +9,12 @@ fn apply(edit: &Edit, fields: &mut Fields) -> Result<(), NoMemory>
 {
     match edit {
         Edit::Add { name, value } => fields.put(name.copy()?, value.copy()?),
-        Edit::Rename { from, to } => match fields.remove(from) {
+        Edit::Rename { from, to } => match fields.remove(from.as_str()) {
             Some(value) => fields.put(to.copy()?, value),
             None => Ok(()),
         },
         Edit::Drop { name } => {
-            fields.remove(name);
+            fields.remove(name.as_str());
             Ok(())
         }
     }

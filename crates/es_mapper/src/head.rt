@@ -1,5 +1,4 @@
 ghost use Rattle.std.specs.Prelude.{◌≡◌, ◌↔◌, ℕ, ℤ, IfSome, IfNone, IsTrue, Some, codes};
-ghost use Rattle.std.specs.Option.{option_copied};
 ghost use Rattle.es_model.specs.Rising.{item_of};
 ghost use Rattle.es_model.specs.declared.value.Atom.TheVariants as atoms;
 ghost use Rattle.es_model.specs.declared.value.Value.TheVariants as values;
@@ -7,22 +6,12 @@ ghost use Rattle.es_mapper.specs.Mapping.{class_value, IsVersion, HasHead};
 
 use es_model::{Atom, Class, Fields, Moment, Value};
 
-fn item<'a>(fields: &'a Fields, name: &str) -> Option<&'a Value>
-    ensures { option_copied result ≡ item_of fields.now name.now }
-{
-    let entry = fields
-        .as_slice()
-        .iter()
-        .find(|entry| entry.0.as_str() == name)?;
-    Some(&entry.1)
-}
-
 // The class version that stands in a state.
 fn version_in(fields: &Fields) -> Option<u64>
     ensures version { IfSome result (λ n. IsVersion n (item_of fields.now (codes "class_version"))) }
     ensures none { IfNone result ((n : ℕ) → ¬ IsVersion n (item_of fields.now (codes "class_version"))) }
 {
-    match item(fields, "class_version") {
+    match fields.get("class_version") {
         None => Some(1),
         Some(Value::One(Atom::Int(version))) => {
             if *version >= 1 {
@@ -40,7 +29,7 @@ fn moment_in(fields: &Fields) -> Option<Moment>
     ensures moment { IfSome result (λ m. item_of fields.now (codes "timestamp") ≡ Some (values.One (atoms.Moment m))) }
     ensures none { IfNone result ((m : ℤ) → ¬ item_of fields.now (codes "timestamp") ≡ Some (values.One (atoms.Moment m))) }
 {
-    match item(fields, "timestamp") {
+    match fields.get("timestamp") {
         Some(Value::One(Atom::Moment(moment))) => Some(*moment),
         _ => None,
     }
@@ -50,7 +39,7 @@ fn moment_in(fields: &Fields) -> Option<Moment>
 fn is_class_right(fields: &Fields, class: &Class, topic: &str) -> bool
     ensures { IsTrue result ↔ (item_of fields.now (codes "originator_topic") ≡ class_value class.now topic.now) }
 {
-    match item(fields, "originator_topic") {
+    match fields.get("originator_topic") {
         None => !class.is_created(topic),
         Some(Value::One(Atom::Text(name))) => {
             class.is_created(topic) && name.as_str() == class.name.as_str()
