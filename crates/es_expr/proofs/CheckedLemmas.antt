@@ -3,6 +3,7 @@ use Rattle.std.proofs.Common.{◌≡◌, ℕ, suc, IsTrue, Bool, true, false, Li
 use Rattle.std.proofs.lemmas.Slice.Eq.{bytes_eq-Decides}
 use Rattle.std.specs.Str.{bytes_eq}
 use Rattle.es_model.specs.Declaration.{class_named, event_in, command_in}
+use Rattle.es_model.specs.Names.{topic_of}
 use Rattle.es_model.specs.Rising.{item_of}
 use Rattle.es_model.specs.Values.{Name}
 use Rattle.es_model.specs.declared.declaration.Class.{Class}
@@ -20,7 +21,7 @@ use Rattle.es_model.specs.declared.value.Kind.{Kind}
 use Rattle.es_model.specs.declared.value.Kind.TheVariants as kind
 use Rattle.es_expr.specs.Environments.{created_env, assign_env}
 use Rattle.es_expr.specs.Kinds.{Judged, kind_of, is_same_kind, is_same_atom_kind}
-use Rattle.es_expr.specs.Misfits.{unless, each, item, judged, member, member_misfits, some_misfits, has_all, all_misfits, truth, uuid, moment, whole, topic_of, first_env, trigger_env, is_in_order, class_misfits, class_member_misfits, class_part_misfits, created_misfits, event_misfits, command_misfits, command_part_misfits, guard_misfits, trigger_misfits, triggered_misfits, app_misfits, pipe_misfits, misfits}
+use Rattle.es_expr.specs.Misfits.{unless, each, item, judged, member, member_misfits, some_misfits, has_all, all_misfits, truth, uuid, moment, whole, first_env, trigger_env, is_in_order, class_misfits, class_member_misfits, class_part_misfits, created_misfits, event_misfits, command_misfits, command_part_misfits, guard_misfits, trigger_misfits, triggered_misfits, app_misfits, pipe_misfits, misfits}
 use Rattle.es_expr.specs.declared.fault.ExprFault.TheVariants as fault
 use Rattle.es_expr.specs.declared.misfit.Misfit.{Misfit}
 
@@ -169,31 +170,31 @@ guards-fit c path d none = tests-nil (first_env c d) (path ++ codes "/require") 
 -- a trigger's event is declared and may come in its place, and the trigger gives all of its fields
 pub record IsTrigger (c : Class) (d : CommandDef) (place : ℕ) (t : Trigger) : Type 0 where
   pub event : EventClass
-  pub declared : event_in c (topic_of c t.event) ≡ Some event
-  pub in_order : IsTrue (is_in_order c place (topic_of c t.event))
+  pub declared : event_in c (topic_of c.name t.event) ≡ Some event
+  pub in_order : IsTrue (is_in_order c place (topic_of c.name t.event))
   pub fields : AreAllOfKinds event.fields (trigger_env c d place) t.fields
 
 abbrev pub AreTriggers : Class → CommandDef → ℕ → List Trigger → Type 0
 AreTriggers c d place [] = Unit {0}
 AreTriggers c d place (t ∷ ts) = IsTrigger c d place t × AreTriggers c d (suc place) ts
 
-trigger-nil : (c : Class) (d : CommandDef) (path : List ℕ) (place : ℕ) (t : Trigger) (o : Option EventClass) → event_in c (topic_of c t.event) ≡ o
-    → triggered_misfits (trigger_env c d place) (is_in_order c place (topic_of c t.event)) path t o ≡ [] → IsTrigger c d place t
+trigger-nil : (c : Class) (d : CommandDef) (path : List ℕ) (place : ℕ) (t : Trigger) (o : Option EventClass) → event_in c (topic_of c.name t.event) ≡ o
+    → triggered_misfits (trigger_env c d place) (is_in_order c place (topic_of c.name t.event)) path t o ≡ [] → IsTrigger c d place t
 trigger-nil c d path place t None is none = cc
 trigger-nil c d path place t (Some e) is none =
-    let order : List Misfit = unless (is_in_order c place (topic_of c t.event)) code.Order (path ++ codes "/event") in
+    let order : List Misfit = unless (is_in_order c place (topic_of c.name t.event)) code.Order (path ++ codes "/event") in
     let given : List Misfit = all_misfits e.fields (trigger_env c d place) (path ++ codes "/fields") t.fields in
     record {
       event = e;
       declared = is;
-      in_order = unless-true (is_in_order c place (topic_of c t.event)) code.Order (path ++ codes "/event") (nil-left order given none);
+      in_order = unless-true (is_in_order c place (topic_of c.name t.event)) code.Order (path ++ codes "/event") (nil-left order given none);
       fields = all-nil e.fields (trigger_env c d place) (path ++ codes "/fields") t.fields (nil-right order given none);
     }
 
 triggers-nil : (c : Class) (d : CommandDef) (path : List ℕ) (place : ℕ) (ts : List Trigger) → each (trigger_misfits c d path) place ts ≡ [] → AreTriggers c d place ts
 triggers-nil c d path place [] none = tt
 triggers-nil c d path place (t ∷ ts) none = (
-  trigger-nil c d (item path place) place t (event_in c (topic_of c t.event)) refl
+  trigger-nil c d (item path place) place t (event_in c (topic_of c.name t.event)) refl
       (nil-left (trigger_misfits c d path place t) (each (trigger_misfits c d path) (suc place) ts) none),
   triggers-nil c d path (suc place) ts (nil-right (trigger_misfits c d path place t) (each (trigger_misfits c d path) (suc place) ts) none),
 )

@@ -1,6 +1,7 @@
 -- Walks over faults, one after another.
 use Rattle.std.proofs.Common.{◌≡◌, ℕ, suc, zero, ◌<◌, ◌≤◌, List, [], ◌∷◌, ◌++◌, length, drop, get_or, Some, Result, Err, refl, sym, ap, subst, ◌∙◌, arith}
-use Rattle.es_expr.specs.Finds.{first, Finds}
+use Rattle.es_expr.specs.Finds.{first}
+use Rattle.es_expr.specs.inner.Walks.{Finds}
 use Rattle.es_expr.specs.Misfits.{each}
 use Rattle.es_expr.specs.declared.misfit.Halt.{Halt}
 use Rattle.es_expr.specs.declared.misfit.Halt.TheVariants.{Found, NoMemory}

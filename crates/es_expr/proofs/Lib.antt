@@ -5,6 +5,7 @@ pub mod FindsLemmas
 pub mod EqualityLemmas
 pub mod FittingLemmas
 pub mod RulesLemmas
+pub mod SeenLemmas
 pub mod SoundLemmas
 pub mod TopicLemmas
 pub mod UniqueLemmas

@@ -3,6 +3,7 @@ use Rattle.std.proofs.Common.{◌≡◌, ℕ, suc, IsTrue, Bool, true, false, Li
 use Rattle.std.specs.List.{list_any, before_first, after_first}
 use Rattle.std.specs.Str.{bytes_eq}
 use Rattle.es_model.specs.Declaration.{app_named, class_named, command_in, event_named}
+use Rattle.es_model.specs.Names.{is_dot}
 use Rattle.es_model.specs.Values.{Name}
 use Rattle.es_model.specs.declared.declaration.App.{App}
 use Rattle.es_model.specs.declared.declaration.Class.{Class}
@@ -14,7 +15,6 @@ use Rattle.es_model.specs.declared.expr.Expr.{Expr}
 use Rattle.es_model.specs.declared.value.Kind.{Kind}
 use Rattle.es_expr.specs.Checked.{IsCheckedSystem}
 use Rattle.es_expr.specs.Kinds.{kind_of}
-use Rattle.es_expr.specs.Limits.{is_dot}
 use Rattle.es_expr.specs.Misfits.{each, item, truth, uuid, on_env, listed_command, command_of, rule_command, class_misfits, leader_misfits, when_misfits, target_misfits, do_misfits, condition_misfits, call_misfits, on_misfits, rule_misfits, listed_misfits, app_part_misfits, app_misfits, pipe_misfits}
 use Rattle.es_expr.specs.declared.misfit.Misfit.{Misfit}
 use Rattle.es_expr.proofs.CheckedLemmas.{nil-left, nil-right, judged-nil, AreAllOfKinds, all-nil, found-nil}

@@ -21,10 +21,10 @@ use Rattle.es_expr.specs.Operators.{appended, apply, apply_one, contained, conju
 use Rattle.es_expr.specs.Outcome.{Outcome, bind, is, is_in_i64, is_within, over, stuck, within}
 use Rattle.es_expr.specs.Sound.{Fits, IsCheckedAs}
 use Rattle.es_expr.specs.declared.fault.ExprFault.TheVariants.{Unknown, Kind as Wrong, NoMemory}
-use Rattle.es_expr.specs.declared.shape.Binary.{Binary}
-use Rattle.es_expr.specs.declared.shape.Binary.TheVariants.{Add, Sub, Mul, Eq, Ne, Lt, Le, And, Or, Concat, Append, Contains, Uuid5}
-use Rattle.es_expr.specs.declared.shape.Unary.{Unary}
-use Rattle.es_expr.specs.declared.shape.Unary.TheVariants.{Not, Len, Show}
+use Rattle.es_model.specs.declared.operators.Binary.{Binary}
+use Rattle.es_model.specs.declared.operators.Binary.TheVariants.{Add, Sub, Mul, Eq, Ne, Lt, Le, And, Or, Concat, Append, Contains, Uuid5}
+use Rattle.es_model.specs.declared.operators.Unary.{Unary}
+use Rattle.es_model.specs.declared.operators.Unary.TheVariants.{Not, Len, Show}
 
 -- a value of the kind, or a limit that is passed
 abbrev HasKind : Kind → Outcome → Type 0

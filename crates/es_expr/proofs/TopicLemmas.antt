@@ -4,12 +4,13 @@ use Rattle.std.proofs.lemmas.Slice.Eq.{bytes_eq-Decides}
 use Rattle.std.specs.List.{list_all, before_first}
 use Rattle.std.specs.Str.{bytes_eq}
 use Rattle.es_model.specs.Declaration.{class_named, event_in, event_named, with_class}
+use Rattle.es_model.specs.Names.{is_dot, is_upper_name, is_field_name, is_topic_in}
 use Rattle.es_model.specs.Values.{Name}
 use Rattle.es_model.specs.declared.declaration.Class.{Class}
 use Rattle.es_model.specs.declared.declaration.EventClass.{EventClass}
 use Rattle.es_model.specs.declared.declaration.System.{System}
 use Rattle.es_expr.specs.Checked.{IsCheckedSystem}
-use Rattle.es_expr.specs.Limits.{is_dot, is_upper_name, are_numbers_within, are_kinds_within, is_field_name, is_event_within, are_events_within, is_class_within, are_commands_within, are_apps_within, are_pipes_within, is_topic_in, are_upcasts_within, are_assigns_within}
+use Rattle.es_expr.specs.Limits.{are_numbers_within, are_kinds_within, is_event_within, are_events_within, is_class_within, are_commands_within, are_apps_within, are_pipes_within, are_upcasts_within, are_assigns_within}
 use Rattle.es_expr.proofs.UniqueLemmas.{declares, class-of-topic}
 
 and-left : (a b : Bool) → IsTrue (a && b) → IsTrue a

@@ -1,16 +1,8 @@
--- How a walk over the faults of a system ends.
-use Rattle.std.specs.Prelude.{◌≡◌, List, [], ◌∷◌, Option, None, Some, Result, Ok, Err}
-use Rattle.es_expr.specs.declared.misfit.Halt.{Halt}
-use Rattle.es_expr.specs.declared.misfit.Halt.TheVariants.{Found, NoMemory}
+-- The first of some faults.
+use Rattle.std.specs.Prelude.{List, [], ◌∷◌, Option, None, Some}
 use Rattle.es_expr.specs.declared.misfit.Misfit.{Misfit}
 
 -- the first of some faults
 abbrev pub first : List Misfit → Option Misfit
 first [] = None
 first (m ∷ ms) = Some m
-
--- a walk goes through where there is no fault, and halts with the first one
-abbrev pub Finds : List Misfit → Result (Unit {0}) Halt → Type 0
-Finds ms (Ok done) = ms ≡ []
-Finds ms (Err (Found m)) = first ms ≡ Some m
-Finds ms (Err NoMemory) = Unit {0}

@@ -13,10 +13,10 @@ use Rattle.es_model.specs.declared.value.Kind.TheVariants.{One, List as Many}
 use Rattle.es_expr.specs.Shapes.{Shape, literal, empty, named, one, two, choice, shape}
 use Rattle.es_expr.specs.declared.fault.ExprFault.{ExprFault}
 use Rattle.es_expr.specs.declared.fault.ExprFault.TheVariants.{Unknown, Kind as Wrong, NoMemory}
-use Rattle.es_expr.specs.declared.shape.Binary.{Binary}
-use Rattle.es_expr.specs.declared.shape.Binary.TheVariants.{Add, Sub, Mul, Eq, Ne, Lt, Le, And, Or, Concat, Append, Contains, Uuid5}
-use Rattle.es_expr.specs.declared.shape.Unary.{Unary}
-use Rattle.es_expr.specs.declared.shape.Unary.TheVariants.{Not, Len, Show}
+use Rattle.es_model.specs.declared.operators.Binary.{Binary}
+use Rattle.es_model.specs.declared.operators.Binary.TheVariants.{Add, Sub, Mul, Eq, Ne, Lt, Le, And, Or, Concat, Append, Contains, Uuid5}
+use Rattle.es_model.specs.declared.operators.Unary.{Unary}
+use Rattle.es_model.specs.declared.operators.Unary.TheVariants.{Not, Len, Show}
 
 abbrev pub is_same_atom_kind : AtomKind → AtomKind → Bool
 is_same_atom_kind kind.Bool kind.Bool = true

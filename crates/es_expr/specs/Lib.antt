@@ -9,4 +9,4 @@ pub mod Operators
 pub mod Outcome
 pub mod Shapes
 pub mod Sound
-pub mod Weights
+pub mod inner

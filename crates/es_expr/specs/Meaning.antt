@@ -12,10 +12,8 @@ use Rattle.es_expr.specs.Outcome.{Outcome, is, over, stuck, bind, within}
 use Rattle.es_expr.specs.Shapes.{Shape, literal, empty, named, one, two, choice, shape}
 use Rattle.es_expr.specs.declared.fault.EvalFault.{EvalFault}
 use Rattle.es_expr.specs.declared.fault.EvalFault.TheVariants.{Overflow, NoMemory}
-use Rattle.es_expr.specs.declared.fault.Trouble.{Trouble}
-use Rattle.es_expr.specs.declared.fault.Trouble.TheVariants as trouble
-use Rattle.es_expr.specs.declared.shape.Binary.{Binary}
-use Rattle.es_expr.specs.declared.shape.Unary.{Unary}
+use Rattle.es_model.specs.declared.operators.Binary.{Binary}
+use Rattle.es_model.specs.declared.operators.Unary.{Unary}
 
 abbrev pub found : Option Value → Outcome
 found (Some v) = within v
@@ -55,13 +53,6 @@ step y = by_shape (shape y)
 
 abbrev pub den : Expr → Record → Outcome
 den = fold-Expr (Record → Outcome) step
-
--- the same before a check: where an operand is of a wrong kind, the evaluation is stuck
-abbrev pub Evaluates : Outcome → Result Value Trouble → Type 0
-Evaluates m (Ok v) = m ≡ is v
-Evaluates m (Err trouble.Over) = m ≡ over
-Evaluates m (Err trouble.Stuck) = m ≡ stuck
-Evaluates m (Err trouble.NoMemory) = Unit {0}
 
 -- what an evaluation answers: this value, that a limit is passed, or that there was no memory
 abbrev pub Gives : Outcome → Result Value EvalFault → Type 0

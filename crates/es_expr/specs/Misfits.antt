@@ -3,7 +3,8 @@
 use Rattle.std.specs.Prelude.{ℕ, suc, ◌==◌, Bool, true, false, not, ◌&&◌, ◌||◌, List, [], ◌∷◌, ◌++◌, take, codes, decimal, encode_utf8, Option, None, Some, is_some, Ok, Err, if◌then◌else◌}
 use Rattle.std.specs.List.{list_all, list_any, before_first, after_first}
 use Rattle.std.specs.Str.{bytes_eq, chars}
-use Rattle.es_model.specs.Declaration.{app_named, class_named, command_in, event_in, event_named, is_created}
+use Rattle.es_model.specs.Declaration.{app_named, class_named, command_in, event_in, event_named, is_created, is_creating}
+use Rattle.es_model.specs.Names.{is_dot, topic_of}
 use Rattle.es_model.specs.Rising.{item_of}
 use Rattle.es_model.specs.Values.{Name}
 use Rattle.es_model.specs.declared.declaration.App.{App}
@@ -21,7 +22,6 @@ use Rattle.es_model.specs.declared.value.AtomKind.TheVariants as atom_kind
 use Rattle.es_model.specs.declared.value.Kind.{Kind}
 use Rattle.es_model.specs.declared.value.Kind.TheVariants as kind
 use Rattle.es_expr.specs.Environments.{creating_env, command_env, created_env, assign_env, rule_env}
-use Rattle.es_expr.specs.Limits.{is_dot}
 use Rattle.es_expr.specs.Kinds.{Judged, kind_of, is_same_kind}
 use Rattle.es_expr.specs.declared.fault.ExprFault.TheVariants as fault
 use Rattle.es_expr.specs.declared.misfit.Misfit.{Misfit}
@@ -110,15 +110,6 @@ all_misfits wanted env path members = unless (has_all wanted members) code.Field
 
 -- ---- commands
 
--- the topic of an event of a class, by the event's name
-abbrev pub topic_of : Class → Name → Name
-topic_of c event = c.name ++ codes "." ++ event
-
--- the first trigger is the class's Created event
-abbrev pub is_creating : Class → List Trigger → Bool
-is_creating c [] = false
-is_creating c (t ∷ ts) = is_created c (topic_of c t.event)
-
 -- the names that a command's guards and its first trigger see
 abbrev pub first_env : Class → CommandDef → List (Name × Kind)
 first_env c d = if is_creating c d.triggers then creating_env d.params uuid moment else command_env d.params uuid moment c.fields whole
@@ -142,7 +133,7 @@ is_in_order c place topic = place == 0 || not (is_created c topic)
 
 abbrev pub trigger_misfits : Class → CommandDef → List ℕ → ℕ → Trigger → List Misfit
 trigger_misfits c d path place t =
-    triggered_misfits (trigger_env c d place) (is_in_order c place (topic_of c t.event)) (item path place) t (event_in c (topic_of c t.event))
+    triggered_misfits (trigger_env c d place) (is_in_order c place (topic_of c.name t.event)) (item path place) t (event_in c (topic_of c.name t.event))
 
 abbrev pub command_part_misfits : Class → List ℕ → CommandDef → List Misfit
 command_part_misfits c path d =
@@ -174,11 +165,13 @@ class_part_misfits path c =
 abbrev pub class_member_misfits : List ℕ → Class → List Misfit
 class_member_misfits path c = created_misfits c (path ++ codes "/created") ++ class_part_misfits path c
 
+-- a class, whose name is new or isn't
+abbrev pub named_class_misfits : Bool → List ℕ → Class → List Misfit
+named_class_misfits new path c = unless new code.Repeat (path ++ codes "/name") ++ class_member_misfits path c
+
 -- a class's name is new
 abbrev pub class_misfits : System → List ℕ → ℕ → Class → List Misfit
-class_misfits s path place c =
-    unless (is_new (λ d. d.name) (take place s.classes) c.name) code.Repeat (item path place ++ codes "/name")
-    ++ class_member_misfits (item path place) c
+class_misfits s path place c = named_class_misfits (is_new (λ d. d.name) (take place s.classes) c.name) (item path place) c
 
 -- ---- applications
 

@@ -12,10 +12,10 @@ use Rattle.es_model.specs.declared.value.Atom.TheVariants as atom
 use Rattle.es_model.specs.declared.value.Value.{Value}
 use Rattle.es_model.specs.declared.value.Value.TheVariants.{One, List as Many}
 use Rattle.es_expr.specs.Outcome.{Outcome, is, stuck}
-use Rattle.es_expr.specs.declared.shape.Binary.{Binary}
-use Rattle.es_expr.specs.declared.shape.Binary.TheVariants.{Add, Sub, Mul, Eq, Ne, Lt, Le, And, Or, Concat, Append, Contains, Uuid5}
-use Rattle.es_expr.specs.declared.shape.Unary.{Unary}
-use Rattle.es_expr.specs.declared.shape.Unary.TheVariants.{Not, Len, Show}
+use Rattle.es_model.specs.declared.operators.Binary.{Binary}
+use Rattle.es_model.specs.declared.operators.Binary.TheVariants.{Add, Sub, Mul, Eq, Ne, Lt, Le, And, Or, Concat, Append, Contains, Uuid5}
+use Rattle.es_model.specs.declared.operators.Unary.{Unary}
+use Rattle.es_model.specs.declared.operators.Unary.TheVariants.{Not, Len, Show}
 use Rattle.sha1.specs.Sha1.{sha1}
 use Rattle.uuid.specs.Parts.{with_variant, with_version}
 use Rattle.uuid.specs.Text.{simple_text, lower}

@@ -4,10 +4,10 @@ use Rattle.es_model.specs.declared.expr.Expr.TheOpen.{Expr-F}
 use Rattle.es_model.specs.declared.value.Atom.{Atom}
 use Rattle.es_model.specs.declared.value.Atom.TheVariants as atom
 use Rattle.es_model.specs.declared.value.AtomKind.{AtomKind}
-use Rattle.es_expr.specs.declared.shape.Binary.{Binary}
-use Rattle.es_expr.specs.declared.shape.Binary.TheVariants.{Add, Sub, Mul, Eq, Ne, Lt, Le, And, Or, Concat, Append, Contains, Uuid5}
-use Rattle.es_expr.specs.declared.shape.Unary.{Unary}
-use Rattle.es_expr.specs.declared.shape.Unary.TheVariants.{Not, Len, Show}
+use Rattle.es_model.specs.declared.operators.Binary.{Binary}
+use Rattle.es_model.specs.declared.operators.Binary.TheVariants.{Add, Sub, Mul, Eq, Ne, Lt, Le, And, Or, Concat, Append, Contains, Uuid5}
+use Rattle.es_model.specs.declared.operators.Unary.{Unary}
+use Rattle.es_model.specs.declared.operators.Unary.TheVariants.{Not, Len, Show}
 
 pub data Shape (A : Type 0) : Type 0 where
   literal : Atom → Shape A

@@ -4,8 +4,9 @@ ghost use Rattle.es_model.specs.Rising.{item_of};
 ghost use Rattle.es_expr.specs.declared.fault.ExprFault.TheVariants.{Kind as Wrong, Unknown};
 
 use crate::ExprFault;
-use crate::kinds::is_same;
-use crate::shape::{Binary, Unary, by_shape};
+use crate::kinds::{follows, gives, is_same, takes, unary_gives, unary_takes, unary_word, word};
+use crate::shape::by_shape;
+use es_model::operators::{Binary, Unary};
 use es_model::{AtomKind, Expr, Kind, Kinds, NoMemory, Text};
 use std::alloc::Global;
 
@@ -64,26 +65,26 @@ fn operand(
 fn one(alloc: Global, op: Unary, a: &Expr, env: &Kinds) -> Result<Kind, ExprFault>
     ensures { Judges (kind_of_one op (kind_of a.now env.now)) result }
 {
-    let kind = operand(alloc, a, env, op.word(), "0")?;
-    if !op.takes(kind) {
-        return wrong(alloc, op.word(), "0");
+    let kind = operand(alloc, a, env, unary_word(op), "0")?;
+    if !unary_takes(op, kind) {
+        return wrong(alloc, unary_word(op), "0");
     }
-    Ok(op.gives())
+    Ok(unary_gives(op))
 }
 
 #[cycle(check)]
 fn two(alloc: Global, op: Binary, a: &Expr, b: &Expr, env: &Kinds) -> Result<Kind, ExprFault>
     ensures { Judges (kind_of_two op (kind_of a.now env.now) (kind_of b.now env.now)) result }
 {
-    let left = operand(alloc, a, env, op.word(), "0")?;
-    if !op.takes(left) {
-        return wrong(alloc, op.word(), "0");
+    let left = operand(alloc, a, env, word(op), "0")?;
+    if !takes(op, left) {
+        return wrong(alloc, word(op), "0");
     }
-    let right = operand(alloc, b, env, op.word(), "1")?;
-    if !op.follows(left, right) {
-        return wrong(alloc, op.word(), "1");
+    let right = operand(alloc, b, env, word(op), "1")?;
+    if !follows(op, left, right) {
+        return wrong(alloc, word(op), "1");
     }
-    Ok(op.gives(left))
+    Ok(gives(op, left))
 }
 
 #[cycle(check)]
@@ -105,7 +106,7 @@ fn choice(alloc: Global, a: &Expr, b: &Expr, c: &Expr, env: &Kinds) -> Result<Ki
 fn known(alloc: Global, name: &Text, env: &Kinds) -> Result<Kind, ExprFault>
     ensures { Judges (known_kind (item_of env.now name.now)) result }
 {
-    match env.get(name) {
+    match env.get(name.as_str()) {
         Some(kind) => Ok(*kind),
         None => Err(ExprFault::Unknown {
             path: Text::from_str(alloc, "")?,

@@ -4,7 +4,8 @@ ghost use Rattle.es_model.specs.Values.{fits};
 ghost use Rattle.es_model.specs.declared.value.AtomKind.TheVariants as atom_kind;
 ghost use Rattle.es_model.specs.declared.value.Kind.TheVariants as kind;
 ghost use Rattle.es_model.specs.declared.value.Kind.{Kind};
-ghost use Rattle.es_expr.specs.Meaning.{Evaluates, Gives, Tells, den, found as meant_found, of_choice, of_one as meant_of_one, of_two as meant_of_two};
+ghost use Rattle.es_expr.specs.inner.Evaluates.{Evaluates};
+ghost use Rattle.es_expr.specs.Meaning.{Gives, Tells, den, found as meant_found, of_choice, of_one as meant_of_one, of_two as meant_of_two};
 ghost use Rattle.es_expr.specs.Operators.{truth};
 ghost use Rattle.es_expr.specs.Outcome.{is};
 ghost use Rattle.es_expr.specs.Sound.{IsChecked, IsCheckedAs, IsTest};
@@ -12,14 +13,15 @@ ghost use Rattle.es_expr.specs.Sound.{IsChecked, IsCheckedAs, IsTest};
 use crate::EvalFault;
 use crate::fault::Trouble;
 use crate::operators::{decision, limited, of_one, of_two};
-use crate::shape::{Binary, Unary, by_shape};
+use crate::shape::by_shape;
+use es_model::operators::{Binary, Unary};
 use es_model::{Atom, Atoms, Duplicate, Expr, Fields, Text, Value};
 use std::alloc::Global;
 
 fn found(name: &Text, env: &Fields) -> Result<Value, Trouble>
     ensures { Evaluates (meant_found (item_of env.now name.now)) result }
 {
-    match env.get(name) {
+    match env.get(name.as_str()) {
         Some(value) => limited(value.copy()?),
         None => Err(Trouble::Stuck),
     }

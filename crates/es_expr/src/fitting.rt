@@ -7,7 +7,7 @@ use es_model::{Fields, Kind, Kinds, Text, fits};
 fn has_fitting_value(env: &Fields, name: &Text, kind: &Kind) -> bool
     ensures { result ≡ has_fitting (item_of env.now name.now) kind.now }
 {
-    match env.get(name) {
+    match env.get(name.as_str()) {
         Some(value) => fits(value, kind),
         None => false,
     }

@@ -3,7 +3,7 @@
 //! The definitions that contracts cite are in `specs/`: the shapes of expressions, what each operator
 //! and each expression means over unbounded whole numbers and lists, their kinds and first faults, and
 //! when an expression may be evaluated; the names that expressions see at each place of a declaration,
-//! what doesn't fit together in a system, and the names and limits of a checked one.
+//! what doesn't fit together in a system, and the limits of a checked one.
 #![tactic(auto)]
 
 mod checked;
@@ -15,7 +15,6 @@ mod fitting;
 mod kinds;
 mod limits;
 mod misfit;
-mod names;
 mod operators;
 mod shape;
 mod walk;
@@ -28,8 +27,3 @@ pub use fault::{EvalFault, ExprFault};
 pub use fitting::fit;
 pub use misfit::Misfit;
 pub use walk::first_misfit;
-
-#[cfg(test)]
-mod systems;
-#[cfg(test)]
-mod tests;

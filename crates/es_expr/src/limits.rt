@@ -1,21 +1,66 @@
 //! The limits of a declared system.
-ghost use Rattle.std.specs.Prelude.{◌≡◌, ◌+◌, ◌≤◌, ◌&&◌, max, min};
+ghost use Rattle.std.specs.Prelude.{◌≡◌, ◌+◌, ◌*◌, ◌≤◌, ◌&&◌, max, min};
 ghost use Rattle.std.specs.List.{list_all};
 ghost use Rattle.std.specs.Option.{option_copied};
+ghost use Rattle.es_model.specs.Names as name_spec;
+ghost use Rattle.es_model.specs.Names.{is_between};
+ghost use Rattle.es_model.specs.declared.limits.TheConstants.{MOST_LEVELS, MOST_NODES};
 ghost use Rattle.es_expr.specs.Limits as spec;
-ghost use Rattle.es_expr.specs.Limits.{is_between, is_absent_or_between, is_atom_within, is_value_within, is_expr_within, is_absent_or_within, are_assigns_within, are_kinds_within, is_edit_within, is_upcast_within, is_event_within, is_guard_within, is_trigger_within, is_command_within, is_class_within, is_rule_within, is_app_within, is_pipe_within, is_within};
-ghost use Rattle.es_expr.specs.Weights.{IsWeight};
+ghost use Rattle.es_expr.specs.Limits.{is_absent_or_between, is_atom_within, is_value_within, is_expr_within, is_absent_or_within, are_assigns_within, are_kinds_within, is_edit_within, is_upcast_within, is_event_within, is_guard_within, is_trigger_within, is_command_within, is_class_within, is_rule_within, is_app_within, is_pipe_within, is_within};
+ghost use Rattle.es_expr.specs.inner.Weights.{IsWeight};
 
-use crate::names::{is_code_name, is_field_name, is_lower_name, is_topic_in, is_upper_name};
+use es_model::limits::{
+    LEAST_MEMBERS, MOST_APPS, MOST_CLASS_VERSION, MOST_CLASSES, MOST_COMMANDS, MOST_EDITS,
+    MOST_EVENTS, MOST_FIELDS, MOST_GUARDS, MOST_INTERVAL, MOST_ITEMS, MOST_LEVELS, MOST_MEMBERS,
+    MOST_NODES, MOST_PIPES, MOST_RULES, MOST_SECTION, MOST_TEXT_BYTES, MOST_TRIGGERS, MOST_UPCASTS,
+};
+use es_model::names::{NameForm, halves_at_first, is_name};
 use es_model::{
     App, Atom, Class, CommandDef, Edit, EventClass, Expr, Guard, Kind, List, Names, Rule, System,
     Text, Trigger, Value,
 };
 
+fn is_field_name(name: &str) -> bool
+    ensures { result ≡ name_spec.is_field_name name.now }
+{
+    is_name(NameForm::Field, name)
+}
+
+fn is_code_name(name: &str) -> bool
+    ensures { result ≡ name_spec.is_code_name name.now }
+{
+    is_name(NameForm::Code, name)
+}
+
+fn is_lower_name(name: &str) -> bool
+    ensures { result ≡ name_spec.is_lower_name name.now }
+{
+    is_name(NameForm::Plain, name)
+}
+
+fn is_upper_name(name: &str) -> bool
+    ensures { result ≡ name_spec.is_upper_name name.now }
+{
+    is_name(NameForm::Class, name)
+}
+
+fn is_topic_in(class: &str, topic: &str) -> bool
+    ensures { result ≡ name_spec.is_topic_in class.now topic.now }
+{
+    let (before, after) = halves_at_first(topic);
+    before == class && is_upper_name(after)
+}
+
 fn is_between(low: u64, high: u64, number: u64) -> bool
     ensures { result ≡ is_between low high number }
 {
     low <= number && number <= high
+}
+
+fn is_count_between(low: usize, high: usize, count: usize) -> bool
+    ensures { result ≡ is_between low high count }
+{
+    low <= count && count <= high
 }
 
 fn is_absent_or_between(low: u64, high: u64, number: Option<u64>) -> bool
@@ -31,7 +76,7 @@ fn is_atom_within(atom: &Atom) -> bool
     ensures { result ≡ is_atom_within atom.now }
 {
     match atom {
-        Atom::Text(text) => text.as_str().len() <= 4096,
+        Atom::Text(text) => text.as_str().len() <= MOST_TEXT_BYTES,
         Atom::Null
         | Atom::Bool(_)
         | Atom::Int(_)
@@ -52,7 +97,7 @@ fn is_value_within(value: &Value) -> bool
 {
     match value {
         Value::One(atom) => is_atom_within(atom),
-        Value::List(atoms) => atoms.len() <= 256 && is_each_atom_within(atoms.as_slice()),
+        Value::List(atoms) => atoms.len() <= MOST_ITEMS && is_each_atom_within(atoms.as_slice()),
     }
 }
 
@@ -60,8 +105,8 @@ fn is_value_within(value: &Value) -> bool
 // its literals are within theirs.
 #[derive(Clone, Copy)]
 struct Weight {
-    depth: u64,
-    nodes: u64,
+    depth: usize,
+    nodes: usize,
     is_small: bool,
 }
 
@@ -78,35 +123,35 @@ fn leaf(is_small: bool) -> Weight
 }
 
 // The weight of an operator over operands, of which it takes the depth of the deepest and the sum of the nodes.
-fn over(depth: u64, nodes: u64, is_small: bool) -> Weight
-    requires depth { depth ≤ 17 }
-    requires nodes { nodes ≤ 603 }
-    ensures depth { result.depth ≡ min (depth + 1) 17 }
-    ensures nodes { result.nodes ≡ min (nodes + 1) 201 }
+fn over(depth: usize, nodes: usize, is_small: bool) -> Weight
+    requires depth { depth ≤ MOST_LEVELS + 1 }
+    requires nodes { nodes ≤ 3 * (MOST_NODES + 1) }
+    ensures depth { result.depth ≡ min (depth + 1) (MOST_LEVELS + 1) }
+    ensures nodes { result.nodes ≡ min (nodes + 1) (MOST_NODES + 1) }
     ensures literals { result.is_small ≡ is_small }
 {
     Weight {
-        depth: (depth + 1).min(17),
-        nodes: (nodes + 1).min(201),
+        depth: (depth + 1).min(MOST_LEVELS + 1),
+        nodes: (nodes + 1).min(MOST_NODES + 1),
         is_small,
     }
 }
 
 fn over_one(a: Weight) -> Weight
-    requires depth { a.depth ≤ 17 }
-    requires nodes { a.nodes ≤ 201 }
-    ensures depth { result.depth ≡ min (a.depth + 1) 17 }
-    ensures nodes { result.nodes ≡ min (a.nodes + 1) 201 }
+    requires depth { a.depth ≤ MOST_LEVELS + 1 }
+    requires nodes { a.nodes ≤ MOST_NODES + 1 }
+    ensures depth { result.depth ≡ min (a.depth + 1) (MOST_LEVELS + 1) }
+    ensures nodes { result.nodes ≡ min (a.nodes + 1) (MOST_NODES + 1) }
     ensures literals { result.is_small ≡ a.is_small }
 {
     over(a.depth, a.nodes, a.is_small)
 }
 
 fn over_two(a: Weight, b: Weight) -> Weight
-    requires depth { (a.depth ≤ 17) × (b.depth ≤ 17) }
-    requires nodes { (a.nodes ≤ 201) × (b.nodes ≤ 201) }
-    ensures depth { result.depth ≡ min (max a.depth b.depth + 1) 17 }
-    ensures nodes { result.nodes ≡ min (a.nodes + b.nodes + 1) 201 }
+    requires depth { (a.depth ≤ MOST_LEVELS + 1) × (b.depth ≤ MOST_LEVELS + 1) }
+    requires nodes { (a.nodes ≤ MOST_NODES + 1) × (b.nodes ≤ MOST_NODES + 1) }
+    ensures depth { result.depth ≡ min (max a.depth b.depth + 1) (MOST_LEVELS + 1) }
+    ensures nodes { result.nodes ≡ min (a.nodes + b.nodes + 1) (MOST_NODES + 1) }
     ensures literals { result.is_small ≡ (a.is_small && b.is_small) }
 {
     over(
@@ -117,10 +162,10 @@ fn over_two(a: Weight, b: Weight) -> Weight
 }
 
 fn over_three(a: Weight, b: Weight, c: Weight) -> Weight
-    requires depth { (a.depth ≤ 17) × (b.depth ≤ 17) × (c.depth ≤ 17) }
-    requires nodes { (a.nodes ≤ 201) × (b.nodes ≤ 201) × (c.nodes ≤ 201) }
-    ensures depth { result.depth ≡ min (max (max a.depth b.depth) c.depth + 1) 17 }
-    ensures nodes { result.nodes ≡ min (a.nodes + b.nodes + c.nodes + 1) 201 }
+    requires depth { (a.depth ≤ MOST_LEVELS + 1) × (b.depth ≤ MOST_LEVELS + 1) × (c.depth ≤ MOST_LEVELS + 1) }
+    requires nodes { (a.nodes ≤ MOST_NODES + 1) × (b.nodes ≤ MOST_NODES + 1) × (c.nodes ≤ MOST_NODES + 1) }
+    ensures depth { result.depth ≡ min (max (max a.depth b.depth) c.depth + 1) (MOST_LEVELS + 1) }
+    ensures nodes { result.nodes ≡ min (a.nodes + b.nodes + c.nodes + 1) (MOST_NODES + 1) }
     ensures literals { result.is_small ≡ (a.is_small && b.is_small && c.is_small) }
 {
     over(
@@ -134,7 +179,7 @@ fn weight_of(expr: &Expr) -> Weight
     ensures { IsWeight expr.now result }
 {
     match expr {
-        Expr::Text(text) => leaf(text.as_str().len() <= 4096),
+        Expr::Text(text) => leaf(text.as_str().len() <= MOST_TEXT_BYTES),
         Expr::Bool(_) => leaf(true),
         Expr::Int(_) => leaf(true),
         Expr::Uuid(_) => leaf(true),
@@ -166,7 +211,7 @@ fn is_expr_within(expr: &Expr) -> bool
     ensures { result ≡ is_expr_within expr.now }
 {
     let weight = weight_of(expr);
-    weight.depth <= 16 && weight.nodes <= 200 && weight.is_small
+    weight.depth <= MOST_LEVELS && weight.nodes <= MOST_NODES && weight.is_small
 }
 
 fn is_absent_or_within(expr: Option<&Expr>) -> bool
@@ -185,27 +230,27 @@ fn are_assigns_within(assigns: &[(Text, Expr)]) -> bool
 }
 
 fn is_each_a_field(fields: &[(Text, Kind)]) -> bool
-    ensures { result ≡ list_all (λ k. spec.is_field_name k.0) fields.now }
+    ensures { result ≡ list_all (λ k. name_spec.is_field_name k.0) fields.now }
 {
     fields.iter().all(|entry| is_field_name(entry.0.as_str()))
 }
 
 fn are_fields_within(fields: &[(Text, Kind)]) -> bool
-    ensures { result ≡ are_kinds_within spec.is_field_name fields.now }
+    ensures { result ≡ are_kinds_within name_spec.is_field_name fields.now }
 {
-    fields.len() <= 32 && is_each_a_field(fields)
+    fields.len() <= MOST_FIELDS && is_each_a_field(fields)
 }
 
 fn is_each_a_parameter(params: &[(Text, Kind)]) -> bool
-    ensures { result ≡ list_all (λ k. spec.is_lower_name k.0) params.now }
+    ensures { result ≡ list_all (λ k. name_spec.is_lower_name k.0) params.now }
 {
     params.iter().all(|entry| is_lower_name(entry.0.as_str()))
 }
 
 fn are_params_within(params: &[(Text, Kind)]) -> bool
-    ensures { result ≡ are_kinds_within spec.is_lower_name params.now }
+    ensures { result ≡ are_kinds_within name_spec.is_lower_name params.now }
 {
-    params.len() <= 32 && is_each_a_parameter(params)
+    params.len() <= MOST_FIELDS && is_each_a_parameter(params)
 }
 
 fn is_edit_within(edit: &Edit) -> bool
@@ -227,7 +272,7 @@ fn is_each_edit_within(edits: &[Edit]) -> bool
 fn is_upcast_within(edits: &List<Edit>) -> bool
     ensures { result ≡ is_upcast_within edits.now }
 {
-    edits.len() <= 16 && is_each_edit_within(edits.as_slice())
+    edits.len() <= MOST_EDITS && is_each_edit_within(edits.as_slice())
 }
 
 fn is_each_upcast_within(upcasts: &[List<Edit>]) -> bool
@@ -239,7 +284,7 @@ fn is_each_upcast_within(upcasts: &[List<Edit>]) -> bool
 fn are_upcasts_within(upcasts: &[List<Edit>]) -> bool
     ensures { result ≡ spec.are_upcasts_within upcasts.now }
 {
-    upcasts.len() <= 100 && is_each_upcast_within(upcasts)
+    upcasts.len() <= MOST_UPCASTS && is_each_upcast_within(upcasts)
 }
 
 fn is_event_within(class: &str, event: &EventClass) -> bool
@@ -260,7 +305,7 @@ fn is_each_event_within(class: &str, events: &[EventClass]) -> bool
 fn are_events_within(class: &str, events: &[EventClass]) -> bool
     ensures { result ≡ spec.are_events_within class.now events.now }
 {
-    events.len() <= 32 && is_each_event_within(class, events)
+    events.len() <= MOST_EVENTS && is_each_event_within(class, events)
 }
 
 fn is_guard_within(guard: &Guard) -> bool
@@ -278,7 +323,7 @@ fn is_each_guard_within(guards: &[Guard]) -> bool
 fn are_guards_within(guards: &[Guard]) -> bool
     ensures { result ≡ spec.are_guards_within guards.now }
 {
-    guards.len() <= 16 && is_each_guard_within(guards)
+    guards.len() <= MOST_GUARDS && is_each_guard_within(guards)
 }
 
 fn is_trigger_within(trigger: &Trigger) -> bool
@@ -296,7 +341,7 @@ fn is_each_trigger_within(triggers: &[Trigger]) -> bool
 fn are_triggers_within(triggers: &[Trigger]) -> bool
     ensures { result ≡ spec.are_triggers_within triggers.now }
 {
-    is_between(1, 8, triggers.len() as u64) && is_each_trigger_within(triggers)
+    is_count_between(1, MOST_TRIGGERS, triggers.len()) && is_each_trigger_within(triggers)
 }
 
 fn is_command_within(command: &CommandDef) -> bool
@@ -317,13 +362,14 @@ fn is_each_command_within(commands: &[CommandDef]) -> bool
 fn are_commands_within(commands: &[CommandDef]) -> bool
     ensures { result ≡ spec.are_commands_within commands.now }
 {
-    commands.len() <= 32 && is_each_command_within(commands)
+    commands.len() <= MOST_COMMANDS && is_each_command_within(commands)
 }
 
 fn are_numbers_within(class: &Class) -> bool
     ensures { result ≡ spec.are_numbers_within class.now }
 {
-    is_between(1, 1_000_000, class.version) && is_absent_or_between(1, 1_000_000, class.interval)
+    is_between(1, MOST_CLASS_VERSION, class.version)
+        && is_absent_or_between(1, MOST_INTERVAL, class.interval)
 }
 
 fn is_class_within(class: &Class) -> bool
@@ -354,16 +400,16 @@ fn is_each_rule_within(rules: &[Rule]) -> bool
 fn are_rules_within(rules: &[Rule]) -> bool
     ensures { result ≡ spec.are_rules_within rules.now }
 {
-    rules.len() <= 64 && is_each_rule_within(rules)
+    rules.len() <= MOST_RULES && is_each_rule_within(rules)
 }
 
 fn is_app_within(app: &App) -> bool
     ensures { result ≡ is_app_within app.now }
 {
     is_lower_name(app.name.as_str())
-        && app.classes.len() <= 64
+        && app.classes.len() <= MOST_CLASSES
         && are_rules_within(app.policies.as_slice())
-        && is_absent_or_between(1, 1000, app.section_size)
+        && is_absent_or_between(1, MOST_SECTION, app.section_size)
 }
 
 fn is_each_app_within(apps: &[App]) -> bool
@@ -375,13 +421,13 @@ fn is_each_app_within(apps: &[App]) -> bool
 fn are_apps_within(apps: &[App]) -> bool
     ensures { result ≡ spec.are_apps_within apps.now }
 {
-    is_between(1, 16, apps.len() as u64) && is_each_app_within(apps)
+    is_count_between(1, MOST_APPS, apps.len()) && is_each_app_within(apps)
 }
 
 fn is_pipe_within(pipe: &Names) -> bool
     ensures { result ≡ is_pipe_within pipe.now }
 {
-    is_between(2, 16, pipe.len() as u64)
+    is_count_between(LEAST_MEMBERS, MOST_MEMBERS, pipe.len())
 }
 
 fn is_each_pipe_within(pipes: &[Names]) -> bool
@@ -393,7 +439,7 @@ fn is_each_pipe_within(pipes: &[Names]) -> bool
 fn are_pipes_within(pipes: &[Names]) -> bool
     ensures { result ≡ spec.are_pipes_within pipes.now }
 {
-    pipes.len() <= 32 && is_each_pipe_within(pipes)
+    pipes.len() <= MOST_PIPES && is_each_pipe_within(pipes)
 }
 
 fn is_each_class_within(classes: &[Class]) -> bool

@@ -5,27 +5,22 @@ ghost use Rattle.std.specs.List.{list_any};
 ghost use Rattle.uuid.specs.Text.{simple_text, lower};
 ghost use Rattle.es_model.specs.declared.value.Atom.TheVariants as meant_atom;
 ghost use Rattle.es_model.specs.declared.value.Value.TheVariants as meant_value;
-ghost use Rattle.es_expr.specs.Meaning.{Evaluates};
+ghost use Rattle.es_expr.specs.inner.Evaluates.{Evaluates};
 ghost use Rattle.es_expr.specs.Operators as meant;
 ghost use Rattle.es_expr.specs.Outcome.{bind, within, is_within as within_limits};
 
 use crate::fault::Trouble;
-use crate::shape::{Binary, Unary};
+use es_model::limits::{MOST_ITEMS, MOST_TEXT_BYTES};
+use es_model::operators::{Binary, Unary};
 use es_model::{Atom, Decimal, NoMemory, Text, Value};
 use std::alloc::Global;
 use uuid::Uuid;
-
-// The most bytes of a text.
-const MOST_BYTES: usize = 4096;
-
-// The most items of a list.
-const MOST_ITEMS: usize = 256;
 
 fn is_within(value: &Value) -> bool
     ensures { result ≡ within_limits value.now }
 {
     match value {
-        Value::One(Atom::Text(text)) => text.as_str().len() <= MOST_BYTES,
+        Value::One(Atom::Text(text)) => text.as_str().len() <= MOST_TEXT_BYTES,
         // Any number is in range: it is read so that its range is known.
         Value::One(Atom::Int(number)) => (i64::MIN..=i64::MAX).contains(number),
         Value::One(_) => true,

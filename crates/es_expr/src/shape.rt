@@ -1,29 +1,3 @@
-/// An operator over one operand.
-#[derive(Clone, Copy, Debug, PartialEq, Eq)]
-pub(crate) enum Unary {
-    Not,
-    Len,
-    Show,
-}
-
-/// An operator over two operands.
-#[derive(Clone, Copy, Debug, PartialEq, Eq)]
-pub(crate) enum Binary {
-    Add,
-    Sub,
-    Mul,
-    Eq,
-    Ne,
-    Lt,
-    Le,
-    And,
-    Or,
-    Concat,
-    Append,
-    Contains,
-    Uuid5,
-}
-
 // Sorts an expression by its shape: the arms of those without operands, and then, for each operator, a
 // call of the function for so many operands, with what the call hands on.
 macro_rules! by_shape {

@@ -1,6 +1,7 @@
 //! What doesn't fit together in a system: a walk in the order of its document, to the first fault.
 ghost use Rattle.std.specs.Prelude.{◌≡◌, IfOk};
-ghost use Rattle.es_expr.specs.Finds.{Finds, first};
+ghost use Rattle.es_expr.specs.Finds.{first};
+ghost use Rattle.es_expr.specs.inner.Walks.{Finds};
 ghost use Rattle.es_expr.specs.Misfits.{misfits};
 
 mod apps;
@@ -8,6 +9,7 @@ mod classes;
 mod expressions;
 mod paths;
 mod pipes;
+mod seen;
 
 use crate::misfit::{Halt, Misfit};
 use es_model::{NoMemory, System};

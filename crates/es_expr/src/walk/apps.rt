@@ -3,15 +3,15 @@ ghost use Rattle.std.specs.Prelude.{◌≡◌, IfOk, Some};
 ghost use Rattle.std.specs.List.{list_any};
 ghost use Rattle.std.specs.Option.{option_copied, option_map};
 ghost use Rattle.std.specs.Str.{bytes_eq};
-ghost use Rattle.es_expr.specs.Finds.{Finds};
+ghost use Rattle.es_expr.specs.inner.Walks.{Finds};
 ghost use Rattle.es_expr.specs.Misfits as spec;
 ghost use Rattle.es_expr.specs.Misfits.{each, app_misfits, app_part_misfits, listed_misfits, leader_misfits, when_misfits, do_misfits, condition_misfits, target_misfits, call_misfits, applied_misfits, on_misfits, rule_misfits};
 
 use crate::environments::rule_env;
 use crate::misfit::Halt;
-use crate::names::halves;
 use crate::walk::expressions::{all_members, expression};
 use crate::walk::paths::{before, halt, halt_unless, item_path, joined};
+use es_model::names::halves_at_first;
 use es_model::{
     App, AtomKind, Class, Code, CommandDef, EventClass, Expr, Kind, Kinds, NoMemory, Rule, System,
     Text,
@@ -125,7 +125,7 @@ fn command_of<'a>(class: Option<&'a Class>, names: &[Text], name: &str) -> Optio
 fn rule_command<'a>(sys: &'a System, app: &App, command: &str) -> Option<&'a CommandDef>
     ensures { option_copied result ≡ spec.rule_command sys.now app.now command.now }
 {
-    let (class, name) = halves(command);
+    let (class, name) = halves_at_first(command);
     command_of(sys.class(class), app.classes.as_slice(), name)
 }
 

@@ -1,41 +1,23 @@
 //! The faults of classes, with their events and commands.
-ghost use Rattle.std.specs.Prelude.{◌≡◌, ◌∷◌, IfOk, string_bytes};
+ghost use Rattle.std.specs.Prelude.{◌≡◌, ◌∷◌, IfOk};
 ghost use Rattle.std.specs.List.{list_any};
 ghost use Rattle.std.specs.Option.{option_copied};
 ghost use Rattle.std.specs.Str.{bytes_eq};
-ghost use Rattle.es_expr.specs.Finds.{Finds};
+ghost use Rattle.es_expr.specs.inner.Walks.{Finds};
 ghost use Rattle.es_expr.specs.Misfits as spec;
-ghost use Rattle.es_expr.specs.Misfits.{each, is_new, topic_of, first_env, class_misfits, class_member_misfits, class_part_misfits, created_misfits, event_misfits, command_misfits, command_part_misfits, guard_misfits, trigger_misfits, triggered_misfits};
+ghost use Rattle.es_expr.specs.Misfits.{each, item, is_new, first_env, class_misfits, named_class_misfits, class_member_misfits, class_part_misfits, created_misfits, event_misfits, command_misfits, command_part_misfits, guard_misfits, trigger_misfits, triggered_misfits};
 
 use crate::environments::{assign_env, command_env, created_env, creating_env};
 use crate::misfit::Halt;
 use crate::walk::expressions::{all_members, expression, some_members};
 use crate::walk::paths::{before, halt, halt_unless, item_path, joined};
+use crate::walk::seen::see;
+use es_model::names::topic_of;
 use es_model::{
     AtomKind, Class, Code, CommandDef, EventClass, Guard, Kind, Kinds, NoMemory, System, Trigger,
 };
-use std::alloc::{AllocError, Global};
-
-fn topic_of(alloc: Global, class: &Class, event: &str) -> Result<String, AllocError>
-    ensures { IfOk result (λ t. string_bytes t ≡ topic_of class.now event.now) }
-{
-    let mut topic = joined(alloc, class.name.as_str(), ".")?;
-    topic.push_str(event)?;
-    Ok(topic)
-}
-
-// Whether the first trigger is the class's Created event.
-fn is_creating(alloc: Global, class: &Class, triggers: &[Trigger]) -> Result<bool, AllocError>
-    ensures { IfOk result (λ b. b ≡ spec.is_creating class.now triggers.now) }
-{
-    match triggers {
-        [] => Ok(false),
-        [first, ..] => {
-            let topic = topic_of(alloc, class, first.event.as_str())?;
-            Ok(class.is_created(topic.as_str()))
-        }
-    }
-}
+use std::alloc::Global;
+use std::collections::BTreeSet;
 
 // What a later trigger sees.
 fn later_env(alloc: Global, class: &Class, command: &CommandDef) -> Result<Kinds, NoMemory>
@@ -55,7 +37,7 @@ fn later_env(alloc: Global, class: &Class, command: &CommandDef) -> Result<Kinds
 fn first_env(alloc: Global, class: &Class, command: &CommandDef) -> Result<Kinds, NoMemory>
     ensures { IfOk result (λ e. e ≡ first_env class.now command.now) }
 {
-    if is_creating(alloc, class, command.triggers.as_slice())? {
+    if class.is_creating(alloc, command.triggers.as_slice())? {
         creating_env(
             alloc,
             command.params.as_slice(),
@@ -138,7 +120,7 @@ fn trigger(
     ensures { Finds (trigger_misfits class.now command.now path.now place trigger.now) result }
 {
     let path = item_path(alloc, path, place)?;
-    let topic = topic_of(alloc, class, trigger.event.as_str())?;
+    let topic = topic_of(alloc, class.name.as_str(), trigger.event.as_str())?;
     let env = trigger_env(alloc, class, command, place)?;
     let in_order = place == 0 || !class.is_created(topic.as_str());
     let event = class.event(topic.as_str());
@@ -280,12 +262,6 @@ fn created(alloc: Global, class: &Class, path: &str) -> Result<(), Halt>
     all_members(alloc, &class.fields, &env, set.as_str(), &created.assigns)
 }
 
-fn is_among_classes(classes: &[Class], name: &str) -> bool
-    ensures { result ≡ list_any (λ d. bytes_eq d.name name.now) classes.now }
-{
-    classes.iter().any(|class| class.name.as_str() == name)
-}
-
 // The later events and the commands of a class.
 fn class_parts(alloc: Global, path: &str, class: &Class) -> Result<(), Halt>
     ensures { Finds (class_part_misfits path.now class.now) result }
@@ -310,11 +286,11 @@ fn class_members(alloc: Global, path: &str, class: &Class) -> Result<(), Halt>
     class_parts(alloc, path, class)
 }
 
-fn class(alloc: Global, sys: &System, path: &str, place: usize, class: &Class) -> Result<(), Halt>
-    ensures { Finds (class_misfits sys.now path.now place class.now) result }
+// A class, whose name is new or isn't.
+fn class(alloc: Global, is_new: bool, path: &str, place: usize, class: &Class) -> Result<(), Halt>
+    ensures { Finds (named_class_misfits is_new (item path.now place) class.now) result }
 {
     let path = item_path(alloc, path, place)?;
-    let is_new = !is_among_classes(before(sys.classes.as_slice(), place), class.name.as_str());
     halt_unless(alloc, is_new, Code::Repeat, path.as_str(), "/name")?;
     class_members(alloc, path.as_str(), class)
 }
@@ -325,10 +301,13 @@ pub(crate) fn classes(
     path: &str,
     classes: &[Class],
 ) -> Result<(), Halt>
+    requires { classes.now ≡ sys.now.classes }
     ensures { Finds (each (class_misfits sys.now path.now) 0 classes.now) result }
 {
+    let mut seen = BTreeSet::new(alloc);
     for (place, each) in classes.iter().enumerate() {
-        class(alloc, sys, path, place, each)?;
+        let is_new = see(&mut seen, each.name.as_str())?;
+        class(alloc, is_new, path, place, each)?;
     }
     Ok(())
 }

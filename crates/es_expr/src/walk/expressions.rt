@@ -3,7 +3,7 @@ ghost use Rattle.std.specs.Prelude.{◌≡◌, is_some, None, Some};
 ghost use Rattle.std.specs.Option.{option_copied};
 ghost use Rattle.es_model.specs.Rising.{item_of};
 ghost use Rattle.es_expr.specs.Kinds.{kind_of};
-ghost use Rattle.es_expr.specs.Finds.{Finds};
+ghost use Rattle.es_expr.specs.inner.Walks.{Finds};
 ghost use Rattle.es_expr.specs.Misfits.{judged, member, member_misfits, some_misfits, all_misfits, has_all};
 
 use crate::kinds::is_same;
@@ -57,7 +57,13 @@ fn named_member(
     ensures { Finds (member_misfits (member path.now entry.now.0) (item_of wanted.now entry.now.0) (kind_of entry.now.1 env.now)) result }
 {
     let path = member_path(alloc, path, entry.0.as_str())?;
-    member_of(alloc, wanted.get(&entry.0), env, path.as_str(), &entry.1)
+    member_of(
+        alloc,
+        wanted.get(entry.0.as_str()),
+        env,
+        path.as_str(),
+        &entry.1,
+    )
 }
 
 // The members of an object of expressions, which has some of the wanted ones.
@@ -82,7 +88,7 @@ pub(crate) fn some_members(
 fn is_there(members: &Assigns, name: &Text) -> bool
     ensures { result ≡ is_some (item_of members.now name.now) }
 {
-    members.get(name).is_some()
+    members.get(name.as_str()).is_some()
 }
 
 fn are_all_there(wanted: &[(Text, Kind)], members: &Assigns) -> bool

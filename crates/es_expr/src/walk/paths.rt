@@ -1,7 +1,7 @@
 //! JSON pointers, and the halt of a walk at one.
 ghost use Rattle.std.specs.Prelude.{◌≡◌, ◌++◌, OnOk, IfOk, string_bytes, take};
 ghost use Rattle.std.specs.Str.{chars};
-ghost use Rattle.es_expr.specs.Finds.{Finds};
+ghost use Rattle.es_expr.specs.inner.Walks.{Finds};
 ghost use Rattle.es_expr.specs.Misfits.{misfit, unless, member, item, escaped, escaped_char};
 
 use crate::misfit::{Halt, Misfit};

@@ -1,6 +1,6 @@
 //! The faults of pipes.
 ghost use Rattle.std.specs.Prelude.{◌≡◌};
-ghost use Rattle.es_expr.specs.Finds.{Finds};
+ghost use Rattle.es_expr.specs.inner.Walks.{Finds};
 ghost use Rattle.es_expr.specs.Misfits as spec;
 ghost use Rattle.es_expr.specs.Misfits.{each, joined_misfits, pipe_misfits};
 

@@ -1,6 +1,6 @@
 use Rattle.std.proofs.Common.{◌∙◌, ap, subst}
 use Rattle.std.specs.List.{list_any}
-use Rattle.es_expr.specs.Meaning.{Evaluates}
+use Rattle.es_expr.specs.inner.Evaluates.{Evaluates}
 use Rattle.es_expr.specs.Operators.{truth, is_equal_atom}
 use Rattle.es_expr.proofs.operators.contained.Goals as goal
 

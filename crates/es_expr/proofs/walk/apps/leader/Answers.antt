@@ -1,6 +1,6 @@
 use Rattle.std.proofs.Common.{Some, subst, sym}
 use Rattle.std.specs.Option.{option_copied}
-use Rattle.es_expr.specs.Finds.{Finds}
+use Rattle.es_expr.specs.inner.Walks.{Finds}
 use Rattle.es_expr.specs.Misfits.{leader_misfits}
 use Rattle.es_expr.proofs.walk.apps.leader.Goals as goal
 

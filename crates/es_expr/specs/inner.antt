@@ -1,0 +1,4 @@
+pub mod Evaluates
+pub mod Seen
+pub mod Walks
+pub mod Weights
