@@ -18,6 +18,7 @@ use Rattle.es_model.specs.declared.value.Kind.{Kind}
 use Rattle.es_model.specs.declared.value.Value.{Value}
 use Rattle.es_model.specs.declared.value.Value.TheVariants as value
 use Rattle.es_expr.proofs.RulesLemmas.{IsTestWhere, IsRule, AreRules, rules-fit}
+use Rattle.es_expr.proofs.TopicLemmas.{passed}
 use Rattle.es_expr.specs.Checked.{IsCheckedSystem}
 use Rattle.es_expr.specs.Environments.{created_env, rule_env}
 use Rattle.es_expr.specs.Limits.{is_app_within, are_apps_within, are_pipes_within, are_rules_within, is_absent_or_between, is_between, is_class_within, is_lower_name, is_rule_within, has_lower_form, has_name_length}
@@ -29,7 +30,7 @@ use Rattle.es_domain.specs.Effect.{command_named, declared_in, with_def}
 use Rattle.es_domain.specs.Fold.{id_value, moment_value, version_value}
 use Rattle.es_domain.specs.Steps.{IsOfTopic}
 use Rattle.es_domain.proofs.KindsLemmas.{both, fits-env, all_named_checked}
-use Rattle.es_domain.proofs.Projections.{all-at, env-created, find-at}
+use Rattle.es_domain.proofs.Projections.{env-created, found-passes}
 use Rattle.es_domain.proofs.ValuesLemmas.{of-kinds-append, one-of-kind}
 
 -- ---- a declared application
@@ -48,8 +49,7 @@ record AppWithin (a : App) : Type 0 where
 
 app-within : (sys : System) (name : Name) (a : App) → IsCheckedSystem sys → app_named sys.apps name ≡ Some a → AppWithin a × (a.name ≡ name)
 app-within sys name a checked is =
-    let r = find-at (λ b. bytes_eq b.name name) sys.apps a is in
-    let within = all-at is_app_within sys.apps r.0 a (apps-within sys checked) r.1 in
+    let within = passed (λ (b : App). bytes_eq b.name name) is_app_within sys.apps a (apps-within sys checked) is in
     let classes = is_lower_name a.name && nat_le (length a.classes) 64 in
     let rules = both (classes && are_rules_within a.policies) (is_absent_or_between 1 1000 a.section_size) within in
     let names = both classes (are_rules_within a.policies) rules.0 in (
@@ -57,7 +57,7 @@ app-within sys name a checked is =
         name = (both (is_lower_name a.name) (nat_le (length a.classes) 64) names.0).0;
         few = (both (nat_le (length a.policies) 64) (list_all is_rule_within a.policies) names.1).0;
       },
-      (bytes_eq-Decides a.name name).0 r.2,
+      (bytes_eq-Decides a.name name).0 (found-passes (λ (b : App). bytes_eq b.name name) sys.apps a is),
     )
 
 pub few_rules : (sys : System) (name : Name) (a : App) → IsCheckedSystem sys → app_named sys.apps name ≡ Some a → length a.policies ≤ 64

@@ -1,9 +1,9 @@
 -- Aggregates stay ready for the next trigger.
-use Rattle.std.proofs.Common.{◌≡◌, ℕ, ℤ, ◌<◌, ◌≤◌, ◌+◌, ◌-◌, length, take, drop, get_or, add-one, ◌^◌, ◌==◌, IsTrue, true, false, Bool, List, [], ◌∷◌, ◌++◌, Option, None, Some, Result, Ok, Err, IfOk, IfSome, OnOk, All, if◌then◌else◌, refl, sym, ap, subst, ◌∙◌, arith}
+use Rattle.std.proofs.Common.{ℤ, ℕ, ◌≡◌, ◌≤◌, ◌+◌, ◌-◌, length, take, drop, get_or, add-one, IsTrue, true, false, Bool, List, [], ◌∷◌, ◌++◌, Option, None, Some, Result, Ok, Err, IfOk, IfSome, OnOk, All, if◌then◌else◌, refl, sym, ap, subst, ◌∙◌, arith}
 use Rattle.std.proofs.lemmas.List.Elements.{All-push}
 use Rattle.std.proofs.lemmas.Slice.Eq.{bytes_eq-Decides}
 use Rattle.std.specs.Str.{bytes_eq}
-use Rattle.es_model.specs.Declaration.{class_named, event_in, event_named, is_created}
+use Rattle.es_model.specs.Declaration.{class_named, event_named}
 use Rattle.es_model.specs.Values.{Name, Id, Record, are_of_kinds}
 use Rattle.es_model.specs.declared.declaration.Class.{Class}
 use Rattle.es_model.specs.declared.declaration.EventClass.{EventClass}
@@ -12,55 +12,22 @@ use Rattle.es_model.specs.declared.declaration.Trigger.{Trigger}
 use Rattle.es_model.specs.declared.domain_event.DomainEvent.{DomainEvent}
 use Rattle.es_expr.specs.Checked.{IsCheckedSystem}
 use Rattle.es_domain.specs.Decision.{IsNewEvent}
-use Rattle.es_domain.specs.Effect.{fired, all_fired, misplaced, class_code}
-use Rattle.es_domain.specs.Firing.{IsReady, IsKnown, IsEffect, IsNewEffect, CanFire, CanAllFire, MakesOf}
-use Rattle.es_domain.specs.Fold.{begun, stepped, stepped_by, changed_to, fields_then, later_in, created_with, fields_at_first}
+use Rattle.es_domain.specs.Effect.{made, fired, all_fired, misplaced, class_code}
+use Rattle.es_domain.specs.Firing.{IsReady, IsKnown, IsEffect, IsNewEffect, CanAllFire, MakesOf}
+use Rattle.es_domain.specs.Fold.{begun, stepped, later_in, created_with, fields_at_first}
 use Rattle.es_domain.specs.Steps.{IsOfClass, IsOfTopic, HasItsFields, created_topic, first_event, next_event, with_pending, Triggers, TriggersOn}
 use Rattle.es_domain.specs.declared.aggregate.Aggregate.{Aggregate}
-use Rattle.es_domain.specs.declared.aggregate.ApplyFault.{ApplyFault}
-use Rattle.es_domain.specs.declared.aggregate.ApplyFault.TheVariants.{Topic, OriginatorId, OriginatorVersion, Overflow}
+use Rattle.es_domain.specs.declared.aggregate.ApplyFault.TheVariants.{Overflow}
 use Rattle.es_domain.specs.declared.aggregate.TriggerFault.{TriggerFault}
 use Rattle.es_domain.specs.declared.aggregate.TriggerFault.TheVariants as trigger
 use Rattle.es_domain.specs.declared.command.Command.{Command}
 use Rattle.es_domain.specs.declared.effect.Effect.{Effect}
 use Rattle.es_domain.specs.declared.effect.Effect.TheVariants.{Changed, Refused}
 use Rattle.es_model.specs.declared.memory.NoMemory.{NoMemory}
+use Rattle.es_domain.proofs.NextLemmas.{made-by, pended}
 use Rattle.es_domain.proofs.FoldLemmas.{created_is_named, created_begins, created_class, later_in_class}
-use Rattle.es_domain.proofs.Projections.{one_topic}
+use Rattle.es_expr.proofs.TopicLemmas.{one-topic}
 use Rattle.es_domain.proofs.ValuesLemmas.{rest-is}
-
--- what an event leaves of an aggregate besides its fields
-abbrev pub Keeps : Aggregate → DomainEvent → Aggregate → Type 0
-Keeps a e b = (b.class ≡ a.class) × (b.version ≡ e.originator_version) × (b.pending ≡ a.pending)
-
-changed-keeps : (a : Aggregate) (e : DomainEvent) (o : Option Record) (b : Aggregate) → changed_to a e o ≡ Ok b → Keeps a e b
-changed-keeps a e None b is = absurd (cc is)
-changed-keeps a e (Some fields) b is =
-    let same : record a { version = e.originator_version; modified_on = e.timestamp; fields = fields } ≡ b = cc in
-    (sym (ap (λ (x : Aggregate). x.class) same), sym (ap (λ (x : Aggregate). x.version) same), sym (ap (λ (x : Aggregate). x.pending) same))
-
-pub chosen : (p q : Bool) (x f g : Result Aggregate ApplyFault) (b : Aggregate) → (f ≡ Ok b → ⊥) → (g ≡ Ok b → ⊥) → (if p then (if q then x else f) else g) ≡ Ok b → x ≡ Ok b
-chosen true true x f g b nf ng is = is
-chosen true false x f g b nf ng is = absurd (nf is)
-chosen false q x f g b nf ng is = absurd (ng is)
-
-pub stepped-keeps : (a : Aggregate) (o : Option EventClass) (e : DomainEvent) (b : Aggregate) → stepped_by a o e ≡ Ok b → Keeps a e b
-stepped-keeps a None e b is = absurd (cc is)
-stepped-keeps a (Some k) e b is =
-    changed-keeps a e (fields_then a k e.fields e.timestamp) b
-    (chosen (bytes_eq e.originator_id a.id) (e.originator_version == a.version + 1) (changed_to a e (fields_then a k e.fields e.timestamp))
-    (Err (OriginatorVersion (a.version + 1) e.originator_version)) (Err OriginatorId) b (λ h. cc) (λ h. cc) is)
-
-pub pended-keeps : (a : Aggregate) (e : DomainEvent) (o : Result Aggregate ApplyFault) (b : Aggregate) → ((x : Aggregate) → o ≡ Ok x → Keeps a e x) → with_pending e o ≡ Ok b
-    → (b.class ≡ a.class) × (b.version ≡ e.originator_version) × (b.pending ≡ a.pending ++ e ∷ [])
-pended-keeps a e (Err fault) b keeps is = absurd (cc is)
-pended-keeps a e (Ok x) b keeps is =
-    let same : record x { pending = x.pending ++ e ∷ [] } ≡ b = cc in
-    let k = keeps x refl in (
-      sym (ap (λ (y : Aggregate). y.class) same) ∙ k.0,
-      sym (ap (λ (y : Aggregate). y.version) same) ∙ k.1,
-      sym (ap (λ (y : Aggregate). y.pending) same) ∙ ap (λ (es : List DomainEvent). es ++ e ∷ []) k.2,
-    )
 
 of-named : (sys : System) (name : Name) (k : Class) (fields : Record) → class_named sys.classes name ≡ Some k → IsOfClass (class_named sys.classes name) fields → IsTrue (are_of_kinds fields k.fields)
 of-named sys name k fields is of = subst (λ (o : Option Class). IsOfClass o fields) is of
@@ -75,15 +42,19 @@ module _ (sys : System) (k : Class) (event : EventClass) (topic : Name) (fields 
   fired_ready (Err fault) old new outcome of more ready = tt
   fired_ready (Ok done) old new outcome of more ready =
       let e = next_event old topic fields at in
-      let keeps = pended-keeps old e (stepped sys old e) new (λ x is. stepped-keeps old (later_in (class_named sys.classes old.class) topic) e x is) outcome in
-      let class = keeps.0 ∙ ready.class in
+      let p = pended e (stepped sys old e) new (ap made outcome) in
+      let m = made-by sys (Some old) e p.0 p.1 in
+      let same_class : new.class ≡ old.class = sym (ap (λ (x : Aggregate). x.class) p.2) ∙ m.class in
+      let version : new.version ≡ old.version + 1 = sym (ap (λ (x : Aggregate). x.version) p.2) ∙ m.version_is in
+      let pending : new.pending ≡ old.pending ++ e ∷ [] = sym (ap (λ (x : Aggregate). x.pending) p.2) ∙ ap (λ (es : List DomainEvent). es ++ e ∷ []) m.pending in
+      let class = same_class ∙ ready.class in
       let small = ready.version in
       record {
         class = class;
         fields = of-named sys new.class k new.fields (ap (class_named sys.classes) class ∙ named) of;
-        version = omega (arith, keeps.1);
-        pending = subst (All (IsNewEvent sys)) (sym keeps.2) (All-push (IsNewEvent sys) old.pending e ready.pending
-            (record { fields = of-topic sys topic k event fields (one_topic sys k.name k topic event checked named (later_in_class k topic event later)) are; version = omega (arith, small) }));
+        version = omega (arith, version, small);
+        pending = subst (All (IsNewEvent sys)) (sym pending) (All-push (IsNewEvent sys) old.pending e ready.pending
+            (record { fields = of-topic sys topic k event fields (one-topic sys k.name k topic event checked named (later_in_class k topic event later)) are; version = omega (arith, small) }));
       }
 
 made-keeps : (k : Class) (e : DomainEvent) (o : Option Record) (b : Aggregate) → with_pending e (created_with k e o) ≡ Ok b → (b.class ≡ k.name) × (b.version ≡ 1) × (b.pending ≡ e ∷ [])
@@ -117,9 +88,6 @@ none_fired sys k c at [] = refl
 none_fired sys k c at (t ∷ ts) = refl
 
 module _ (sys : System) (k : Class) (c : Command) (at : ℤ) (old : Aggregate) where
-  pub fired_split : (ts : List Trigger) (d : Trigger) (new : Aggregate) → 1 ≤ length ts → fired sys k c at (get_or ts 0 d) old ≡ Some new → all_fired sys k c at ts (Some old) ≡ all_fired sys k c at (take (length ts - 1) (drop 1 ts)) (Some new)
-  fired_split [] d new long is = absurd (omega arith)
-  fired_split (t ∷ ts) d new long is = ap (all_fired sys k c at ts) is ∙ ap (λ (us : List Trigger). all_fired sys k c at us (Some new)) (sym (rest-is t ts))
 
   pub fired_err : (ts : List Trigger) (d : Trigger) (new : Aggregate) (fault : TriggerFault) → 1 ≤ length ts → MakesOf (fired sys k c at (get_or ts 0 d) old) new (Err fault) → MakesOf (all_fired sys k c at ts (Some old)) new (Err fault)
   fired_err [] d new fault long is = absurd (omega arith)
@@ -131,16 +99,9 @@ module _ (sys : System) (k : Class) (c : Command) (at : ℤ) (old : Aggregate) w
   rest_ready (t ∷ ts) new long ready onward =
       subst (λ (us : List Trigger). IsReady sys k (length us) new) (sym (rest-is t ts)) (onward (length ts) (subst (λ n. IsReady sys k n old) (sym (add-one (length ts))) ready))
 
-pub head_fires : (k : Class) (c : Command) (at : ℤ) (ts : List Trigger) (d : Trigger) → 1 ≤ length ts → CanAllFire k c at ts → CanFire k c at (get_or ts 0 d)
-head_fires k c at [] d long can = absurd (omega arith)
-head_fires k c at (t ∷ ts) d long can = can.0
-
 pub rest_fires : (k : Class) (c : Command) (at : ℤ) (ts : List Trigger) → 1 ≤ length ts → CanAllFire k c at ts → CanAllFire k c at (take (length ts - 1) (drop 1 ts))
 rest_fires k c at [] long can = absurd (omega arith)
 rest_fires k c at (t ∷ ts) long can = subst (λ us. CanAllFire k c at us) (sym (rest-is t ts)) can.1
-
-pub one_ready : (sys : System) (k : Class) (more : ℕ) (a : Aggregate) → 1 ≤ more → IsReady sys k more a → IsReady sys k 1 a
-one_ready sys k more a some ready = let small = ready.version in record { class = ready.class; fields = ready.fields; version = omega (arith, small); pending = ready.pending }
 
 -- what was found is ready for a command that it is there for
 

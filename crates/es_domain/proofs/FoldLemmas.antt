@@ -1,5 +1,5 @@
 -- Steps of the fold, in a checked system.
-use Rattle.std.proofs.Common.{◌≡◌, ℕ, ℤ, IsTrue, true, false, Bool, List, [], ◌∷◌, ◌++◌, Option, None, Some, Result, Ok, Err, IfSome, IfOk, if◌then◌else◌, refl, sym, ap, subst, ◌∙◌}
+use Rattle.std.proofs.Common.{ℤ, ◌≡◌, IsTrue, true, false, List, [], ◌∷◌, ◌++◌, Option, None, Some, Result, Ok, Err, IfSome, IfOk, if◌then◌else◌, refl, sym, ap, subst, ◌∙◌}
 use Rattle.std.proofs.lemmas.Slice.Eq.{bytes_eq-Decides}
 use Rattle.es_model.specs.Declaration.{class_named, event_in, event_named, is_created}
 use Rattle.es_model.specs.Rising.{IsRising}
@@ -11,14 +11,16 @@ use Rattle.es_model.specs.declared.domain_event.DomainEvent.{DomainEvent}
 use Rattle.es_model.specs.declared.value.Kind.{Kind}
 use Rattle.es_expr.specs.Checked.{IsCheckedSystem}
 use Rattle.es_domain.specs.Evaluation.{AreChecked, AreAssignable, CanBeAssigned}
-use Rattle.es_domain.specs.Fold.{first_env, before_env, later_in, begun, begun_by, created_with, fields_at_first}
+use Rattle.es_domain.specs.Fold.{first_env, before_env, later_in, begun, created_with, fields_at_first}
 use Rattle.es_domain.specs.Steps.{IsOfClass, IsOfEvent, created_in, created_topic, first_event, with_pending, Triggers}
 use Rattle.es_domain.specs.declared.aggregate.Aggregate.{Aggregate}
 use Rattle.es_domain.specs.declared.aggregate.ApplyFault.{ApplyFault}
 use Rattle.es_domain.specs.declared.aggregate.ApplyFault.TheVariants as apply
 use Rattle.es_domain.specs.declared.aggregate.TriggerFault.{TriggerFault}
 use Rattle.es_domain.specs.declared.aggregate.TriggerFault.TheVariants.{Overflow, NoMemory}
-use Rattle.es_domain.proofs.Projections.{class_is_named, one_topic, created_checked, later_assignable}
+use Rattle.es_expr.proofs.TopicLemmas.{one-topic}
+use Rattle.es_expr.proofs.UniqueLemmas.{class-of-topic}
+use Rattle.es_domain.proofs.Projections.{created_checked, later_assignable}
 
 -- a later event may be applied to an aggregate with the fields of its class
 pub assignable : (sys : System) (a : Aggregate) (k : EventClass) (fields : Record) (at : ℤ) (o : Option Class) → class_named sys.classes a.class ≡ o → IsCheckedSystem sys → IsOfClass o a.fields
@@ -46,7 +48,7 @@ pub later_fits : (sys : System) (name topic : Name) (k : EventClass) (fields : R
     → IfSome (event_named sys.classes topic) (λ p. IsTrue (are_of_kinds fields p.1.fields)) → IsTrue (are_of_kinds fields k.fields)
 later_fits sys name topic k fields None is checked later fits = absurd (cc later)
 later_fits sys name topic k fields (Some c) is checked later fits =
-    subst (λ (o : Option (Class × EventClass)). IfSome o (λ p. IsTrue (are_of_kinds fields p.1.fields))) (one_topic sys name c topic k checked is (later_in_class c topic k later)) fits
+    subst (λ (o : Option (Class × EventClass)). IfSome o (λ p. IsTrue (are_of_kinds fields p.1.fields))) (one-topic sys name c topic k checked is (later_in_class c topic k later)) fits
 
 -- an aggregate of a declared class, by the class's name
 pub of_class : (sys : System) (c : Class) (name : Name) (fields : Record) → class_named sys.classes c.name ≡ Some c → name ≡ c.name → IsTrue (are_of_kinds fields c.fields) → IsOfClass (class_named sys.classes name) fields
@@ -60,7 +62,7 @@ created-in : (c : Class) → event_in c c.created.topic ≡ Some c.created
 created-in c = rw (own-topic c) refl
 
 pub created_is_named : (sys : System) (name : Name) (c : Class) → IsCheckedSystem sys → class_named sys.classes name ≡ Some c → event_named sys.classes c.created.topic ≡ Some (c, c.created)
-created_is_named sys name c checked is = one_topic sys name c c.created.topic c.created checked is (created-in c)
+created_is_named sys name c checked is = one-topic sys name c c.created.topic c.created checked is (created-in c)
 
 of-created : (o : Option Class) (c : Class) (fields : Record) → o ≡ Some c → IsOfEvent (created_in o) fields → IsTrue (are_of_kinds fields c.created.fields)
 of-created o c fields is of = subst (λ (o : Option Class). IsOfEvent (created_in o) fields) is of
@@ -72,7 +74,7 @@ create_checked sys name c e checked is topic of rising names =
     (of-created (class_named sys.classes name) c e.fields is of) rising names
 
 pub created_class : (sys : System) (name : Name) (c : Class) → IsCheckedSystem sys → class_named sys.classes name ≡ Some c → class_named sys.classes c.name ≡ Some c
-created_class sys name c checked is = class_is_named sys c c.created c.created.topic checked (created_is_named sys name c checked is)
+created_class sys name c checked is = class-of-topic sys c c.created c.created.topic checked (created_is_named sys name c checked is)
 
 begun-created : (sys : System) (c : Class) (e : DomainEvent) → event_named sys.classes e.topic ≡ Some (c, c.created) → is_created c e.topic ≡ true → e.originator_version ≡ 1 → begun sys e ≡ created_with c e (fields_at_first c.created e)
 begun-created sys c e is created first = rw is (rw created (rw first refl))

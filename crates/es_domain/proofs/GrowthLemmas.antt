@@ -1,66 +1,43 @@
 -- A command adds at most eight events.
-use Rattle.std.proofs.Common.{◌≡◌, ℕ, ℤ, ◌<◌, ◌≤◌, ◌+◌, ◌^◌, ◌==◌, ◌++◌, length, List, [], ◌∷◌, Option, None, Some, IfSome, Result, Ok, Err, refl, sym, ap, ◌∙◌, arith}
-use Rattle.es_model.specs.Declaration.{class_named, command_in, event_named, is_created}
+use Rattle.std.proofs.Common.{ℤ, ℕ, ◌≡◌, ◌<◌, ◌≤◌, ◌+◌, ◌^◌, length, List, [], ◌∷◌, Option, None, Some, IfSome, refl, sym, ap, ◌∙◌, arith}
+use Rattle.es_model.specs.Declaration.{class_named, command_in}
 use Rattle.es_model.specs.Values.{Name, Record}
 use Rattle.es_model.specs.declared.declaration.Class.{Class}
 use Rattle.es_model.specs.declared.declaration.CommandDef.{CommandDef}
-use Rattle.es_model.specs.declared.declaration.EventClass.{EventClass}
 use Rattle.es_model.specs.declared.declaration.System.{System}
 use Rattle.es_model.specs.declared.declaration.Trigger.{Trigger}
 use Rattle.es_model.specs.declared.domain_event.DomainEvent.{DomainEvent}
 use Rattle.es_expr.specs.Checked.{IsCheckedSystem}
 use Rattle.es_expr.specs.Misfits.{topic_of, is_creating}
 use Rattle.es_domain.specs.Decision.{IsOfCommand}
-use Rattle.es_domain.specs.Effect.{all_fired, declared_in, effect, effect_declared, effect_in, effect_of, fired, fired_with, guarded, made, misplaced, opened, opened_with, seen, triggered, unless_refused, with_def}
+use Rattle.es_domain.specs.Effect.{all_fired, declared_in, effect, effect_declared, effect_in, effect_of, fired, fired_with, guarded, misplaced, opened, opened_with, seen, triggered, unless_refused, with_def}
 use Rattle.es_domain.specs.Firing.{IsNewEffect}
-use Rattle.es_domain.specs.Fold.{begun, begun_by, created_with, fields_at_first, later_in, stepped, values_of}
+use Rattle.es_domain.specs.Fold.{begun, stepped, values_of}
 use Rattle.es_domain.specs.Overlay.{IsBelow, IsEffectBelow}
-use Rattle.es_domain.specs.Steps.{first_event, next_event, with_pending}
+use Rattle.es_domain.specs.Steps.{first_event, next_event}
 use Rattle.es_domain.specs.declared.aggregate.Aggregate.{Aggregate}
-use Rattle.es_domain.specs.declared.aggregate.ApplyFault.{ApplyFault}
-use Rattle.es_domain.specs.declared.aggregate.ApplyFault.TheVariants.{Topic, OriginatorVersion}
 use Rattle.es_domain.specs.declared.command.Command.{Command}
 use Rattle.es_domain.specs.declared.effect.Effect.{Effect}
 use Rattle.es_domain.specs.declared.effect.Effect.TheVariants.{Changed, Refused}
-use Rattle.es_domain.proofs.FiringLemmas.{chosen, none_fired, pended-keeps, stepped-keeps}
+use Rattle.es_domain.proofs.FiringLemmas.{none_fired}
+use Rattle.es_domain.proofs.NextLemmas.{made-by, pended, unless-changed, changed-of}
 use Rattle.es_domain.proofs.Projections.{triggers_few}
 
 -- ---- one trigger
-
-made-is : (r : Result Aggregate ApplyFault) (b : Aggregate) → made r ≡ Some b → r ≡ Ok b
-made-is (Ok a) b is = let same : a ≡ b = cc in ap Ok same
-made-is (Err fault) b is = absurd (cc is)
 
 fired-one : (sys : System) (topic : Name) (at : ℤ) (a : Aggregate) (o : Option Record) (b : Aggregate) → fired_with sys topic at a o ≡ Some b → b.version ≡ a.version + 1
 fired-one sys topic at a None b is = absurd (cc is)
 fired-one sys topic at a (Some fields) b is =
     let e : DomainEvent = next_event a topic fields at in
-    (pended-keeps a e (stepped sys a e) b (λ x stepped-is. stepped-keeps a (later_in (class_named sys.classes a.class) topic) e x stepped-is) (made-is (with_pending e (stepped sys a e)) b is)).1
-
-created-one : (k : Class) (e : DomainEvent) (o : Option Record) (x : Aggregate) → created_with k e o ≡ Ok x → x.version ≡ 1
-created-one k e None x is = absurd (cc is)
-created-one k e (Some fields) x is =
-    let new : Aggregate = record { id = e.originator_id; version = 1; class = k.name; created_on = e.timestamp; modified_on = e.timestamp; fields = fields; pending = [] } in
-    let same : new ≡ x = cc in
-    sym (ap (λ (y : Aggregate). y.version) same)
-
-begun-one : (o : Option (Class × EventClass)) (e : DomainEvent) (x : Aggregate) → begun_by o e ≡ Ok x → x.version ≡ 1
-begun-one None e x is = absurd (cc is)
-begun-one (Some p) e x is =
-    created-one p.0 e (fields_at_first p.1 e) x
-    (chosen (is_created p.0 e.topic) (e.originator_version == 1) (created_with p.0 e (fields_at_first p.1 e)) (Err (OriginatorVersion 1 e.originator_version)) (Err Topic) x (λ h. cc) (λ h. cc) is)
-
-pended-one : (e : DomainEvent) (r : Result Aggregate ApplyFault) (b : Aggregate) → ((x : Aggregate) → r ≡ Ok x → x.version ≡ 1) → with_pending e r ≡ Ok b → b.version ≡ 1
-pended-one e (Err fault) b one is = absurd (cc is)
-pended-one e (Ok x) b one is =
-    let same : record x { pending = x.pending ++ e ∷ [] } ≡ b = cc in
-    sym (ap (λ (y : Aggregate). y.version) same) ∙ one x refl
+    let p = pended e (stepped sys a e) b is in
+    sym (ap (λ (x : Aggregate). x.version) p.2) ∙ (made-by sys (Some a) e p.0 p.1).version_is
 
 opened-one : (sys : System) (c : Command) (at : ℤ) (o : Option Record) (b : Aggregate) → opened_with sys c at o ≡ Some b → b.version ≡ 1
 opened-one sys c at None b is = absurd (cc is)
 opened-one sys c at (Some fields) b is =
     let e : DomainEvent = first_event sys c.class c.id fields at in
-    pended-one e (begun sys e) b (begun-one (event_named sys.classes e.topic) e) (made-is (with_pending e (begun sys e)) b is)
+    let p = pended e (begun sys e) b is in
+    sym (ap (λ (x : Aggregate). x.version) p.2) ∙ (made-by sys None e p.0 p.1).version_is
 
 -- ---- all triggers
 
@@ -90,14 +67,6 @@ module _ (sys : System) (k : Class) (c : Command) (at : ℤ) where
   run-grown limit (t ∷ ts) None b few large below is = let v = first-grown t ts b is in omega (arith, v, few, large)
 
 -- ---- an effect
-
-unless-changed : (o : Option Name) (e : Effect) (b : Aggregate) → unless_refused o e ≡ Changed b → e ≡ Changed b
-unless-changed None e b is = is
-unless-changed (Some code) e b is = absurd (cc is)
-
-changed-of : (o : Option Aggregate) (b : Aggregate) → effect_of o ≡ Changed b → o ≡ Some b
-changed-of None b is = absurd (cc is)
-changed-of (Some a) b is = let same : a ≡ b = cc in ap Some same
 
 module _ (sys : System) (c : Command) (at : ℤ) (found : Option Aggregate) (limit : ℕ) (checked : IsCheckedSystem sys) (large : 2 ^ 62 ≤ limit) (below : IfSome found (IsBelow sys limit)) where
   in-grown : (k : Class) (d : CommandDef) (b : Aggregate) → length d.triggers ≤ 8 → effect_in sys k d c at found ≡ Changed b → b.version < limit + 8

@@ -1,35 +1,21 @@
 -- Values of kinds, and the members of objects of expressions.
-use Rattle.std.proofs.Common.{◌≡◌, IsTrue, true, false, Bool, ◌&&◌, List, [], ◌∷◌, ◌++◌, Option, None, Some, is_some, option_map, Result, Ok, Err, if◌then◌else◌, refl, sym, ap, subst, ◌∙◌, codes}
-use Rattle.std.proofs.lemmas.Cmp.{nat_list_cmp_total}
-use Rattle.std.proofs.lemmas.Map.Text.{is_eq-slice_cmp}
+use Rattle.std.proofs.Common.{◌≡◌, IsTrue, true, false, Bool, ◌&&◌, List, [], ◌∷◌, ◌++◌, Option, None, Some, is_some, Ok, refl, sym, ap, subst, ◌∙◌}
 use Rattle.std.proofs.lemmas.Slice.Eq.{bytes_eq-Decides}
-use Rattle.std.specs.Cmp.Lexicographic.{slice_cmp}
-use Rattle.std.specs.List.{list_all}
-use Rattle.std.specs.Ordering.{nat_cmp, is_lt, is_eq, ordering_reverse}
 use Rattle.std.specs.Str.{bytes_eq}
-use Rattle.std.specs.declared.cmp.Ordering.{Ordering}
-use Rattle.std.specs.declared.cmp.Ordering.TheVariants.{Less, Equal, Greater}
-use Rattle.es_model.proofs.RisingLemmas.{before-trans}
+use Rattle.es_model.proofs.RisingLemmas.{before-trans, other, unlike, unlike-back}
 use Rattle.es_model.specs.Rising.{IsRising, comes_first, is_before, item_of}
 use Rattle.es_model.specs.Values.{Name, Record, are_of_kinds, fits}
-use Rattle.es_model.specs.declared.declaration.Code.{Code}
-use Rattle.es_model.specs.declared.declaration.Code.TheVariants as code
 use Rattle.es_model.specs.declared.expr.Expr.{Expr}
-use Rattle.es_model.specs.declared.value.AtomKind.{AtomKind}
-use Rattle.es_model.specs.declared.value.AtomKind.TheVariants as atom_kind
 use Rattle.es_model.specs.declared.value.Kind.{Kind}
-use Rattle.es_model.specs.declared.value.Kind.TheVariants as kind
 use Rattle.es_model.specs.declared.value.Value.{Value}
 use Rattle.es_expr.specs.Environments.{prefixed}
-use Rattle.es_expr.specs.Kinds.{Env, Judged, kind_of, is_same_kind, is_same_atom_kind}
-use Rattle.es_expr.specs.Misfits.{unless, judged, member, member_misfits, some_misfits, has_all, all_misfits, misfit}
-use Rattle.es_expr.specs.Sound.{Fits, IsCheckedAs}
-use Rattle.es_expr.specs.declared.fault.ExprFault.TheVariants as fault
-use Rattle.es_expr.specs.declared.misfit.Misfit.{Misfit}
+use Rattle.es_expr.specs.Kinds.{Env, kind_of}
+use Rattle.es_expr.specs.Misfits.{has_all}
+use Rattle.es_expr.specs.Sound.{Fits}
 use Rattle.es_expr.proofs.CheckedLemmas.{AreOfKinds, AreAllOfKinds}
 use Rattle.es_domain.specs.Evaluation.{AreChecked, AreAssignable}
 use Rattle.es_domain.proofs.ToldLemmas.{item-cons}
-use Rattle.es_domain.proofs.ValuesLemmas.{kinds-parts, of-kinds-append, one-of-kind}
+use Rattle.es_domain.proofs.ValuesLemmas.{kinds-parts}
 
 -- ---- records of kinds as environments
 
@@ -62,77 +48,21 @@ kinds-prefixed word (x ∷ xs) (w ∷ ws) are =
 
 -- ---- members of rising names
 
-abbrev order : Name → Name → Ordering
-order = slice_cmp nat_cmp
-
-less-unlike : (o : Ordering) (a b : Name) → order a b ≡ o → IsTrue (is_lt o) → bytes_eq b a ≡ false
-less-unlike Less a b is h = sym (is_eq-slice_cmp b a) ∙ ap is_eq (nat_list_cmp_total.antisymm b a ∙ ap ordering_reverse is)
-less-unlike Equal a b is h = cc
-less-unlike Greater a b is h = cc
-
-unlike-back : (a b : Name) → IsTrue (is_before a b) → bytes_eq b a ≡ false
-unlike-back a b h = less-unlike (order a b) a b refl h
-
 -- a name that comes first is no other's
 none-first : {A : Type 0} (xs : List (Name × A)) (name : Name) → IsRising xs → IsTrue (comes_first name xs) → item_of xs name ≡ None
 none-first [] name rising first = refl
-none-first (x ∷ []) name rising first = item-cons x [] name false (unlike-back name x.0 first)
+none-first (x ∷ []) name rising first = item-cons x [] name false (unlike-back x.0 name first)
 none-first (x ∷ y ∷ xs) name rising first =
-    item-cons x (y ∷ xs) name false (unlike-back name x.0 first) ∙ none-first (y ∷ xs) name rising.1 (before-trans name x.0 y.0 first rising.0)
+    item-cons x (y ∷ xs) name false (unlike-back x.0 name first) ∙ none-first (y ∷ xs) name rising.1 (before-trans name x.0 y.0 first rising.0)
 
 -- the first names of two rising lists that have the same ones
-compared : {A B : Type 0} (o : Ordering) (x : Name × A) (xs : List (Name × A)) (y : Name × B) (ys : List (Name × B)) (v : B) (u : A) → order x.0 y.0 ≡ o → IsRising (x ∷ xs) → IsRising (y ∷ ys)
+compared : {A B : Type 0} (same early : Bool) (x : Name × A) (xs : List (Name × A)) (y : Name × B) (ys : List (Name × B)) (v : B) (u : A) → bytes_eq x.0 y.0 ≡ same → is_before x.0 y.0 ≡ early → IsRising (x ∷ xs) → IsRising (y ∷ ys)
     → item_of (y ∷ ys) x.0 ≡ Some v → item_of (x ∷ xs) y.0 ≡ Some u → x.0 ≡ y.0
-compared Less x xs y ys v u is rx ry there back = absurd (cc (sym (none-first (y ∷ ys) x.0 ry (ap is_lt is)) ∙ there))
-compared Equal x xs y ys v u is rx ry there back = (bytes_eq-Decides x.0 y.0).0 (sym (is_eq-slice_cmp x.0 y.0) ∙ ap is_eq is)
-compared Greater x xs y ys v u is rx ry there back = absurd (cc (sym (none-first (x ∷ xs) y.0 rx (ap is_lt (nat_list_cmp_total.antisymm y.0 x.0 ∙ ap ordering_reverse is))) ∙ back))
-
--- ---- kinds
-
-same-atom : (a b : AtomKind) → is_same_atom_kind a b ≡ true → a ≡ b
-same-atom atom_kind.Bool atom_kind.Bool is = refl
-same-atom atom_kind.Int atom_kind.Int is = refl
-same-atom atom_kind.Text atom_kind.Text is = refl
-same-atom atom_kind.Uuid atom_kind.Uuid is = refl
-same-atom atom_kind.Moment atom_kind.Moment is = refl
-same-atom atom_kind.Decimal atom_kind.Decimal is = refl
-same-atom a b is = absurd (cc is)
-
-same-kind : (a b : Kind) → is_same_kind a b ≡ true → a ≡ b
-same-kind (kind.One a) (kind.One b) is = ap kind.One (same-atom a b is)
-same-kind (kind.List a) (kind.List b) is = ap kind.List (same-atom a b is)
-same-kind (kind.One a) (kind.List b) is = absurd (cc is)
-same-kind (kind.List a) (kind.One b) is = absurd (cc is)
-
--- ---- no fault
-
-pub no-fault : {A : Type 0} (xs ys : List A) → xs ++ ys ≡ [] → (xs ≡ []) × (ys ≡ [])
-no-fault [] ys is = (refl, is)
-no-fault (x ∷ xs) ys is = absurd (cc is)
-
-pub unless-true : (b : Bool) (c : Code) (path : Name) → unless b c path ≡ [] → b ≡ true
-unless-true true c path is = refl
-unless-true false c path is = absurd (cc is)
-
-pub judged-as : (wanted : Kind) (path : Name) (r : Judged) → judged wanted path r ≡ [] → r ≡ Ok wanted
-judged-as wanted path (Ok k) is = ap Ok (sym (same-kind wanted k (unless-true (is_same_kind wanted k) code.Kind path is)))
-judged-as wanted path (Err (fault.Unknown rest)) is = absurd (cc is)
-judged-as wanted path (Err (fault.Kind rest)) is = absurd (cc is)
-judged-as wanted path (Err fault.NoMemory) is = absurd (cc is)
-
-member-as : (path : Name) (o : Option Kind) (r : Judged) → member_misfits path o r ≡ [] → (k : Kind) × (o ≡ Some k) × (r ≡ Ok k)
-member-as path None r is = absurd (cc is)
-member-as path (Some wanted) r is = (wanted, refl, judged-as wanted path r is)
+compared true early x xs y ys v u is first rx ry there back = (bytes_eq-Decides x.0 y.0).0 is
+compared false true x xs y ys v u is first rx ry there back = absurd (cc (sym (none-first (y ∷ ys) x.0 ry first) ∙ there))
+compared false false x xs y ys v u is first rx ry there back = absurd (cc (sym (none-first (x ∷ xs) y.0 rx (other x.0 y.0 first is)) ∙ back))
 
 -- ---- the members of an object of expressions
-
-unlike-step : (o : Ordering) (a b : Name) → order a b ≡ o → IsTrue (is_lt o) → bytes_eq a b ≡ false
-unlike-step Less a b is h = sym (is_eq-slice_cmp a b) ∙ ap is_eq is
-unlike-step Equal a b is h = cc
-unlike-step Greater a b is h = cc
-
-pub unlike : (a b : Name) → IsTrue (is_before a b) → bytes_eq a b ≡ false
-unlike a b h = unlike-step (order a b) a b refl h
 
 first-trans : {A : Type 0} (a b : Name) (xs : List (Name × A)) → IsTrue (is_before a b) → IsTrue (comes_first b xs) → IsTrue (comes_first a xs)
 first-trans a b [] h first = refl
@@ -147,12 +77,6 @@ EachMember wanted env (x ∷ xs) = ((k : Kind) × (item_of wanted x.0 ≡ Some k
 abbrev EachWanted : List (Name × Expr) → Env → Type 0
 EachWanted members [] = Unit {0}
 EachWanted members (w ∷ ws) = ((e : Expr) × (item_of members w.0 ≡ Some e)) × EachWanted members ws
-
-pub each-member : (wanted env : Env) (path : Name) (members : List (Name × Expr)) → some_misfits wanted env path members ≡ [] → EachMember wanted env members
-each-member wanted env path [] is = tt
-each-member wanted env path (x ∷ xs) is =
-    let p = no-fault (member_misfits (member path x.0) (item_of wanted x.0) (kind_of x.1 env)) (some_misfits wanted env path xs) is in
-    (member-as (member path x.0) (item_of wanted x.0) (kind_of x.1 env) p.0, each-member wanted env path xs p.1)
 
 some-is : {A : Type 0} (o : Option A) → is_some o ≡ true → (x : A) × (o ≡ Some x)
 some-is None is = absurd (cc is)
@@ -187,7 +111,7 @@ aligned [] env [] values fits rw rm m h = tt
 aligned [] env (x ∷ xs) values fits rw rm (m, ms) h = absurd (cc m.1)
 aligned (w ∷ ws) env [] values fits rw rm m (h, hs) = absurd (cc h.1)
 aligned (w ∷ ws) env (x ∷ xs) values fits rw rm (m, ms) (h, hs) =
-    let same : x.0 ≡ w.0 = compared (order x.0 w.0) x xs w ws m.0 h.0 refl rm rw m.1 h.1 in
+    let same : x.0 ≡ w.0 = compared (bytes_eq x.0 w.0) (is_before x.0 w.0) x xs w ws m.0 h.0 refl refl rm rw m.1 h.1 in
     let wanted : Some w.1 ≡ Some m.0 = sym (own-item w ws) ∙ ap (item_of (w ∷ ws)) (sym same) ∙ m.1 in
     let k : w.1 ≡ m.0 = cc wanted in (
       same,
@@ -196,24 +120,6 @@ aligned (w ∷ ws) env (x ∷ xs) values fits rw rm (m, ms) (h, hs) =
           (drop-wanted w ws env xs (subst (λ n. IsTrue (comes_first n xs)) same rm.0) rm.1 ms)
           (drop-member x xs ws (subst (λ n. IsTrue (comes_first n ws)) (sym same) rw.0) rw.1 hs),
     )
-
--- all wanted members are there, each of its kind
-pub all-checked : (wanted env : Env) (path : Name) (members : List (Name × Expr)) (values : Record) → Fits values env → IsRising wanted → IsRising members → all_misfits wanted env path members ≡ [] → AreChecked wanted members values
-all-checked wanted env path members values fits rw rm is =
-    let p = no-fault (unless (has_all wanted members) code.Fields path) (some_misfits wanted env path members) is in
-    aligned wanted env members values fits rw rm (each-member wanted env path members p.1) (each-wanted wanted members (unless-true (has_all wanted members) code.Fields path p.0))
-
-member-of : (wanted env : Env) (members : List (Name × Expr)) (name : Name) (e : Expr) → EachMember wanted env members → item_of members name ≡ Some e → (k : Kind) × (item_of wanted name ≡ Some k) × (kind_of e env ≡ Ok k)
-member-of wanted env [] name e each at = absurd (cc at)
-member-of wanted env (x ∷ xs) name e (m, ms) at =
-    elim (bytes_eq x.0 name) as (λ b. bytes_eq x.0 name ≡ b → (k : Kind) × (item_of wanted name ≡ Some k) × (kind_of e env ≡ Ok k)) [
-      | true ↦ λ is.
-          let same : x.1 ≡ e = cc (sym (item-cons x xs name true is) ∙ at) in
-          (m.0, ap (item_of wanted) (sym ((bytes_eq-Decides x.0 name).0 is)) ∙ m.1, ap (λ (y : Expr). kind_of y env) (sym same) ∙ m.2)
-      | false ↦ λ is. member-of wanted env xs name e ms (sym (item-cons x xs name false is) ∙ at)
-    ] refl
-
--- the same of members that are told by name
 
 more-member : (x : Name × Expr) (xs : List (Name × Expr)) (name : Name) (e : Expr) → IsTrue (comes_first x.0 xs) → IsRising xs → item_of xs name ≡ Some e → item_of (x ∷ xs) name ≡ Some e
 more-member x xs name e first rising at = elim (bytes_eq x.0 name) as (λ b. bytes_eq x.0 name ≡ b → item_of (x ∷ xs) name ≡ Some e) [
@@ -228,6 +134,7 @@ by-place wanted env (x ∷ xs) rising are = (
   by-place wanted env xs rising.1 (λ name e at. are name e (more-member x xs name e rising.0 rising.1 at)),
 )
 
+-- all wanted members are there, each of its kind
 pub all_named_checked : (wanted env : Env) (members : List (Name × Expr)) (values : Record) → Fits values env → IsRising wanted → IsRising members → AreAllOfKinds wanted env members → AreChecked wanted members values
 all_named_checked wanted env members values fits rw rm are =
     aligned wanted env members values fits rw rm (by-place wanted env members rm are.kinds) (each-wanted wanted members are.all)
@@ -245,20 +152,20 @@ each-in : (ws : Env) → IsRising ws → EachIn ws ws
 each-in [] rising = tt
 each-in (w ∷ ws) rising = (own-item w ws, in-more w ws ws rising.0 rising.1 (each-in ws rising.1))
 
-assigned-some : (all env ws : Env) (members : List (Name × Expr)) (values : Record) → Fits values env → EachMember all env members → EachIn all ws → AreAssignable ws members values
-assigned-some all env [] members values fits each in_all = tt
-assigned-some all env (w ∷ ws) members values fits each (h, hs) = (
+assigned-some : (all env ws : Env) (members : List (Name × Expr)) (values : Record) → Fits values env → AreOfKinds all env members → EachIn all ws → AreAssignable ws members values
+assigned-some all env [] members values fits are in_all = tt
+assigned-some all env (w ∷ ws) members values fits are (h, hs) = (
   λ e at.
-      let m = member-of all env members w.0 e each at in
+      let m = are w.0 e at in
       let wanted : Some w.1 ≡ Some m.0 = sym h ∙ m.1 in
       let k : w.1 ≡ m.0 = cc wanted in
       record { kinds = env; fits = fits; checks = m.2 ∙ ap Ok (sym k) },
-  assigned-some all env ws members values fits each hs,
+  assigned-some all env ws members values fits are hs,
 )
 
 -- what is assigned to is of its kind
-pub some-assignable : (wanted env : Env) (path : Name) (members : List (Name × Expr)) (values : Record) → Fits values env → IsRising wanted → some_misfits wanted env path members ≡ [] → AreAssignable wanted members values
-some-assignable wanted env path members values fits rising is = assigned-some wanted env wanted members values fits (each-member wanted env path members is) (each-in wanted rising)
+pub some-assignable : (wanted env : Env) (members : List (Name × Expr)) (values : Record) → Fits values env → IsRising wanted → AreOfKinds wanted env members → AreAssignable wanted members values
+some-assignable wanted env members values fits rising are = assigned-some wanted env wanted members values fits are (each-in wanted rising)
 
 first-alike : (xs : Record) (ks : Env) (a b : Name) → IsTrue (are_of_kinds xs ks) → a ≡ b → IsTrue (comes_first a xs) → IsTrue (comes_first b ks)
 first-alike [] [] a b are same first = refl

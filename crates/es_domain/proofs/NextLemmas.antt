@@ -1,5 +1,5 @@
 -- What is decided comes next: each new event has the version after the latest of its originator.
-use Rattle.std.proofs.Common.{◌≡◌, ◌∙◌, ◌+◌, ◌==◌, ℕ, ℤ, Bool, true, false, List, [], ◌∷◌, ◌++◌, Option, None, Some, Result, Ok, Err, length, IfSome, refl, sym, ap, subst, arith, if◌then◌else◌, length-append}
+use Rattle.std.proofs.Common.{ℤ, ℕ, ◌≡◌, ◌∙◌, ◌+◌, ◌==◌, Bool, true, false, List, [], ◌∷◌, ◌++◌, Option, None, Some, Result, Ok, Err, length, IfSome, refl, sym, ap, subst, arith, if◌then◌else◌, length-append}
 use Rattle.std.specs.Str.{bytes_eq}
 use Rattle.std.proofs.lemmas.Bool.Decides.{Decides-eqb}
 use Rattle.std.proofs.lemmas.Slice.Eq.{bytes_eq-Decides}
@@ -27,7 +27,6 @@ use Rattle.es_domain.specs.declared.command.Command.{Command}
 use Rattle.es_domain.specs.declared.command.Decision.TheVariants as decision
 use Rattle.es_domain.specs.declared.effect.Effect.{Effect}
 use Rattle.es_domain.specs.declared.effect.Effect.TheVariants.{Changed, Refused}
-use Rattle.es_domain.specs.declared.find.FindFault.{FindFault}
 use Rattle.es_domain.specs.declared.find.FindFault.TheVariants.{Unreadable, Failed, NoMemory}
 use Rattle.es_domain.specs.declared.policy.Asked.{Asked}
 use Rattle.es_domain.specs.declared.policy.Asked.TheVariants.{Nothing, Overflows, Asks}
@@ -50,6 +49,7 @@ pub record IsMade (found : Option Aggregate) (e : DomainEvent) (b : Aggregate) :
   pub next : e.originator_version ≡ next_version found
   pub pending : b.pending ≡ new_events found
   pub same : IfSome found (λ a. e.originator_id ≡ a.id)
+  pub class : IfSome found (λ a. b.class ≡ a.class)
 
 chosen : (p q : Bool) (x f g : Result Aggregate ApplyFault) (b : Aggregate) → (f ≡ Ok b → ⊥) → (g ≡ Ok b → ⊥) → (if p then (if q then x else f) else g) ≡ Ok b → (p ≡ true) × (q ≡ true) × (x ≡ Ok b)
 chosen true true x f g b nf ng is = (refl, refl, is)
@@ -67,7 +67,7 @@ created-made c e None b one is = absurd (never Overflow b is)
 created-made c e (Some fields) b one is =
     let a : Aggregate = record { id = e.originator_id; version = 1; class = c.name; created_on = e.timestamp; modified_on = e.timestamp; fields = fields; pending = [] } in
     let same : a ≡ b = one-made a b is in
-    subst (IsMade None e) same (record { id_is = refl; version_is = sym one; next = one; pending = refl; same = tt })
+    subst (IsMade None e) same (record { id_is = refl; version_is = sym one; next = one; pending = refl; same = tt; class = tt })
 
 begun-made : (o : Option (Class × EventClass)) (e : DomainEvent) (b : Aggregate) → begun_by o e ≡ Ok b → IsMade None e b
 begun-made None e b is = absurd (never Topic b is)
@@ -80,7 +80,7 @@ changed-made a e None b id next is = absurd (never Overflow b is)
 changed-made a e (Some fields) b id next is =
     let x : Aggregate = record a { version = e.originator_version; modified_on = e.timestamp; fields = fields } in
     let same : x ≡ b = one-made x b is in
-    subst (IsMade (Some a) e) same (record { id_is = sym id; version_is = refl; next = next; pending = refl; same = id })
+    subst (IsMade (Some a) e) same (record { id_is = sym id; version_is = refl; next = next; pending = refl; same = id; class = refl })
 
 stepped-made : (a : Aggregate) (o : Option EventClass) (e : DomainEvent) (b : Aggregate) → stepped_by a o e ≡ Ok b → IsMade (Some a) e b
 stepped-made a None e b is = absurd (never Topic b is)
@@ -98,6 +98,20 @@ made-by sys (Some a) e b is = stepped-made a (later_in (class_named sys.classes 
 pub made-is : (r : Result Aggregate ApplyFault) (b : Aggregate) → made r ≡ Some b → r ≡ Ok b
 made-is (Ok a) b is = let same : a ≡ b = cc in ap Ok same
 made-is (Err f) b is = absurd (cc is)
+
+-- an event that is pending besides
+pub pended : (e : DomainEvent) (r : Result Aggregate ApplyFault) (b : Aggregate) → made (with_pending e r) ≡ Some b → (x : Aggregate) × (r ≡ Ok x) × (record x { pending = x.pending ++ e ∷ [] } ≡ b)
+pended e (Ok x) b is = (x, refl, cc)
+pended e (Err f) b is = absurd (cc is)
+
+-- an effect that isn't refused
+pub unless-changed : (o : Option Name) (e : Effect) (b : Aggregate) → unless_refused o e ≡ Changed b → e ≡ Changed b
+unless-changed None e b is = is
+unless-changed (Some code) e b is = absurd (cc is)
+
+pub changed-of : (o : Option Aggregate) (b : Aggregate) → effect_of o ≡ Changed b → o ≡ Some b
+changed-of None b is = absurd (cc is)
+changed-of (Some a) b is = let same : a ≡ b = cc in ap Some same
 
 -- ---- where an aggregate stands
 
@@ -191,10 +205,6 @@ module _ (sys : System) where
       let longer = length-append x.pending (e ∷ []) in
       record { id_is = id_is; version_is = omega (arith, version_is, next, longer); chain = chain-push id version x.pending e chain of next }
 
-  pended : (e : DomainEvent) (r : Result Aggregate ApplyFault) (b : Aggregate) → made (with_pending e r) ≡ Some b → (x : Aggregate) × (r ≡ Ok x) × (record x { pending = x.pending ++ e ∷ [] } ≡ b)
-  pended e (Ok x) b is = (x, refl, cc)
-  pended e (Err f) b is = absurd (cc is)
-
   fired-grows : (topic : Name) (at : ℤ) (id : Id) (version : ℕ) (a : Aggregate) (o : Option Record) (b : Aggregate) → Grows id version a → fired_with sys topic at a o ≡ Some b → Grows id version b
   fired-grows topic at id version a None b grows is = absurd (cc is)
   fired-grows topic at id version a (Some fields) b grows is =
@@ -242,14 +252,6 @@ module _ (sys : System) where
     triggered-grow version [] None b stands is = absurd (cc is)
     triggered-grow version (t ∷ ts) None b stands is =
         subst (λ v. Grows c.id v b) (sym stands) (all-grow c.id 0 ts (opened sys c at t) b (opened-some (opened sys c at t) (opened-grows c at (values_of t.fields (seen c at None)))) is)
-
-  unless-changed : (o : Option Name) (e : Effect) (b : Aggregate) → unless_refused o e ≡ Changed b → e ≡ Changed b
-  unless-changed None e b is = is
-  unless-changed (Some code) e b is = absurd (cc is)
-
-  changed-of : (o : Option Aggregate) (b : Aggregate) → effect_of o ≡ Changed b → o ≡ Some b
-  changed-of None b is = absurd (cc is)
-  changed-of (Some a) b is = let same : a ≡ b = cc in ap Some same
 
   declared-grows : (o : Option (Class × CommandDef)) (c : Command) (at : ℤ) (version : ℕ) (found : Option Aggregate) (b : Aggregate) → StandsAt c.id version found → effect_declared sys o c at found ≡ Changed b → Grows c.id version b
   declared-grows None c at version found b stands is = absurd (cc is)

@@ -1,5 +1,5 @@
 -- What is read of aggregates after earlier rules changed some.
-use Rattle.std.proofs.Common.{◌≡◌, ℕ, ◌≤◌, ◌+◌, ◌-◌, ◌^◌, true, false, Bool, List, [], ◌∷◌, ◌++◌, Option, None, Some, IfOk, IfSome, Result, Ok, Err, if◌then◌else◌, refl, sym, ap, subst, ◌∙◌, arith}
+use Rattle.std.proofs.Common.{ℕ, ◌≡◌, ◌≤◌, ◌+◌, ◌-◌, ◌^◌, true, false, Bool, List, [], ◌∷◌, ◌++◌, Option, None, Some, IfSome, Result, Ok, Err, if◌then◌else◌, refl, sym, ap, subst, ◌∙◌, arith}
 use Rattle.std.specs.Option.{option_or}
 use Rattle.std.specs.Str.{bytes_eq}
 use Rattle.es_model.specs.Values.{Id}
@@ -74,11 +74,6 @@ latest_below sys limit (a ∷ changed) id last is (one, rest) = elim (latest cha
 found-below : (sys : System) (limit : ℕ) (id : Id) (a : Aggregate) → 2 ^ 62 ≤ limit → IsFound sys id a → IsBelow sys limit a
 found-below sys limit id a le is = let small = is.version in record { fields = is.fields; version = omega (arith, le, small); pending = is.pending }
 
-pub find_below : (sys : System) (limit : ℕ) (id : Id) (r : Result (Option Aggregate) FindFault) → 2 ^ 62 ≤ limit → IfOk r (λ found. IfSome found (IsFound sys id)) → IfOk r (λ found. IfSome found (IsBelow sys limit))
-find_below sys limit id (Ok None) le found = tt
-find_below sys limit id (Ok (Some a)) le found = found-below sys limit id a le found
-find_below sys limit id (Err fault) le found = tt
-
 known_below : (sys : System) (found : Option Aggregate) → IfSome found (IsBelow sys (2 ^ 63 - 9)) → IfSome found (IsKnown sys)
 known_below sys None is = tt
 known_below sys (Some a) is = let small = is.version in record { fields = is.fields; version = omega (arith, small); pending = is.pending }
@@ -130,10 +125,6 @@ find_told sys (Some old) None changed id r none finds = absurd finds
 find_told sys (Some old) (Some new) changed id r none finds = found-told sys old new changed id r none finds
 
 -- ---- what was told before is told on
-
-pub told_same : (told : Option Told) → TellsOnTold told told
-told_same None = refl
-told_same (Some told) = λ id ns is. is
 
 pub told_then : (a b c : Option Told) → TellsOnTold a b → TellsOnTold b c → TellsOnTold a c
 told_then None b c first second = subst (λ (t : Option Told). TellsOnTold t c) first second

@@ -1,14 +1,14 @@
 -- What rules leave, one after the other.
-use Rattle.std.proofs.Common.{◌≡◌, ℕ, ℤ, ◌<◌, ◌≤◌, ◌+◌, ◌-◌, length, take, drop, get_or, List, [], ◌∷◌, ◌++◌, Option, None, Some, Result, Ok, Err, refl, sym, ap, subst, ◌∙◌, arith}
+use Rattle.std.proofs.Common.{ℤ, ℕ, ◌≡◌, ◌≤◌, ◌+◌, ◌-◌, length, take, drop, get_or, List, [], ◌∷◌, ◌++◌, Option, None, Some, Result, Ok, Err, refl, sym, ap, subst, ◌∙◌, arith}
 use Rattle.es_model.specs.declared.declaration.Otherwise.{Otherwise}
 use Rattle.es_model.specs.declared.declaration.System.{System}
 use Rattle.es_model.specs.declared.domain_event.DomainEvent.{DomainEvent}
 use Rattle.es_model.specs.Values.{Name}
 use Rattle.es_model.specs.declared.declaration.Rule.{Rule}
-use Rattle.es_domain.specs.Asking.{MayBeAsked, AllMayBeAsked}
+use Rattle.es_domain.specs.Asking.{AllMayBeAsked}
 use Rattle.es_domain.specs.Decision.{Decided, DecidesTold, Notice, after_asked, after_change, after_effect, after_reading, asked, joined, rules_from}
 use Rattle.es_domain.specs.Effect.{effect}
-use Rattle.es_domain.specs.Overlay.{AnswersTold, AreBelow, IsBelow, IsChangedBelow, IsEffectBelow, LeavesTold, after_outcome, after_some, after_step, effect_asked, effect_by, found_of, overlaid}
+use Rattle.es_domain.specs.Overlay.{AnswersTold, AreBelow, IsBelow, IsChangedBelow, IsEffectBelow, LeavesTold, after_outcome, after_step, effect_asked, effect_by, found_of, overlaid}
 use Rattle.es_domain.specs.Readings.{AreReadings, Readings, Reading, TellsOn, TellsOnTold, Told, folded, unreadable}
 use Rattle.es_domain.specs.declared.command.Command.{Command}
 use Rattle.es_domain.specs.declared.command.Decision.{Decision}
@@ -68,14 +68,6 @@ module _ (sys : System) (c : Command) (at : ℤ) where
   effect_fault (Some told) read Failed answers = λ readings are. tt
   effect_fault (Some told) read NoMemory answers = λ readings are. tt
 
-pub answers_always : {T : Type 0} (sys : System) (told : Option Told) (wanted : Readings → Result T FindFault) (x : T) → ((readings : Readings) → wanted readings ≡ Ok x) → AnswersTold sys told wanted (Ok x)
-answers_always sys None wanted x is = tt
-answers_always sys (Some told) wanted x is = λ readings are. is readings
-
-pub answers_no_memory : {T : Type 0} (sys : System) (told : Option Told) (wanted : Readings → Result T FindFault) → AnswersTold sys told wanted (Err NoMemory)
-answers_no_memory sys None wanted = tt
-answers_no_memory sys (Some told) wanted = λ readings are. tt
-
 -- ---- one rule
 
 reading-outcome : (sys : System) (c : Command) (at : ℤ) (otherwise : Otherwise) (rule : ℕ) (readings : Readings) (r : Reading) (rest : Readings → Decided)
@@ -89,17 +81,6 @@ asked-outcome sys at otherwise rule readings Nothing rest = refl
 asked-outcome sys at otherwise rule readings Overflows rest = refl
 asked-outcome sys at otherwise rule readings (Asks c) rest = reading-outcome sys c at otherwise rule readings (readings c.id) rest
 
-pub rule_told : (sys : System) (at : ℤ) (otherwise : Otherwise) (number : ℕ) (rest : Readings → Decided) (told : Option Told) (old new : List Aggregate) (a wanted : Asked) (e : Option Effect) (s : Step) → a ≡ wanted
-    → AnswersTold sys told (λ readings. effect_asked sys at a (overlaid old readings)) (Ok e)
-    → ((readings : Readings) → after_some otherwise number (overlaid old readings) e rest ≡ after_step number s (rest (overlaid new readings)))
-    → LeavesTold sys told (λ readings. after_asked sys at otherwise number (overlaid old readings) wanted rest) (λ s readings. after_step number s (rest (overlaid new readings))) (Ok s)
-rule_told sys at otherwise number rest None old new a wanted e s is answers step = tt
-rule_told sys at otherwise number rest (Some told) old new a wanted e s is answers step = λ readings are.
-    ap (λ (x : Asked). after_asked sys at otherwise number (overlaid old readings) x rest) (sym is)
-    ∙ asked-outcome sys at otherwise number (overlaid old readings) a rest
-    ∙ ap (λ (r : Result (Option Effect) FindFault). after_outcome otherwise number (overlaid old readings) r rest) (answers readings are)
-    ∙ step readings
-
 pub rule_fault : (sys : System) (at : ℤ) (otherwise : Otherwise) (number : ℕ) (rest : Readings → Decided) (told : Option Told) (old : List Aggregate) (left : Step → Readings → Decided) (a wanted : Asked) (fault : FindFault) → a ≡ wanted
     → AnswersTold sys told (λ readings. effect_asked sys at a (overlaid old readings)) (Err fault)
     → LeavesTold sys told (λ readings. after_asked sys at otherwise number (overlaid old readings) wanted rest) left (Err fault)
@@ -111,17 +92,9 @@ rule_fault sys at otherwise number rest (Some told) old left a wanted (Unreadabl
 rule_fault sys at otherwise number rest (Some told) old left a wanted Failed is answers = λ readings are. tt
 rule_fault sys at otherwise number rest (Some told) old left a wanted NoMemory is answers = λ readings are. tt
 
-pub leaves_no_memory : (sys : System) (told : Option Told) (wanted : Readings → Decided) (left : Step → Readings → Decided) → LeavesTold sys told wanted left (Err NoMemory)
-leaves_no_memory sys None wanted left = tt
-leaves_no_memory sys (Some told) wanted left = λ readings are. tt
-
 -- ---- all rules
 
 module _ (sys : System) (n : Notice) (at : ℤ) (number : ℕ) where
-  pub no_rules : (told : Option Told) (rules : List Rule) (changed : List Aggregate) (events : List DomainEvent) → length rules < 1 → events ≡ [] → DecidesTold sys told (λ readings. rules_from sys n at number rules (overlaid changed readings)) (Ok (decision.Events events))
-  no_rules None rules changed events short none = tt
-  no_rules (Some told) [] changed events short none = λ readings are. ap (λ (es : List DomainEvent). Ok (decision.Events es)) (sym none)
-  no_rules (Some told) (r ∷ rules) changed events short none = absurd (omega arith)
 
   -- what the first rule leaves, and what follows from it
   abbrev pub Follows : Option Told → List Rule → Rule → List Aggregate → List Aggregate → Result Step FindFault → Type 0
@@ -180,10 +153,6 @@ module _ (sys : System) (n : Notice) (at : ℤ) (number : ℕ) where
       goes-on before told rules d old new s events long s_is on follows readings are ∙ ap (joined events) (after readings are)
   rest_fails (Some before) (Some told) rules d old new s events Failed goes = λ readings are. tt
   rest_fails (Some before) (Some told) rules d old new s events NoMemory goes = λ readings are. tt
-
-pub head_may : (sys : System) (n : Notice) (rules : List Rule) (d : Rule) → 1 ≤ length rules → AllMayBeAsked sys n rules → MayBeAsked sys n (get_or rules 0 d)
-head_may sys n [] d long all = absurd (omega arith)
-head_may sys n (r ∷ rules) d long all = all.0
 
 pub rest_may : (sys : System) (n : Notice) (rules : List Rule) → 1 ≤ length rules → AllMayBeAsked sys n rules → AllMayBeAsked sys n (take (length rules - 1) (drop 1 rules))
 rest_may sys n [] long all = absurd (omega arith)

@@ -1,15 +1,14 @@
 -- What a reader has told, and what is decided over it.
-use Rattle.std.proofs.Common.{◌≡◌, ℕ, ℤ, true, false, Bool, List, [], ◌∷◌, ◌++◌, Option, None, Some, option_map, Result, Ok, Err, if◌then◌else◌, refl, sym, ap, subst, ◌∙◌}
-use Rattle.std.specs.Prelude.{find}
+use Rattle.std.proofs.Common.{ℤ, ◌≡◌, true, false, Bool, List, [], ◌∷◌, ◌++◌, Option, None, Some, Result, Ok, Err, if◌then◌else◌, refl, sym, ap, subst, ◌∙◌}
 use Rattle.std.proofs.lemmas.Slice.Eq.{bytes_eq-Decides}
 use Rattle.std.specs.Str.{bytes_eq}
 use Rattle.es_model.specs.Rising.{item_of}
 use Rattle.es_model.specs.Values.{Name, Id}
 use Rattle.es_model.specs.declared.declaration.System.{System}
 use Rattle.es_model.specs.declared.event.Notification.{Notification}
-use Rattle.es_domain.specs.Decision.{Decided, DecidesTold, Decides, command_decision, command_on, decision_of}
+use Rattle.es_domain.specs.Decision.{DecidesTold, command_decision, command_on, decision_of}
 use Rattle.es_domain.specs.Effect.{effect}
-use Rattle.es_domain.specs.Readings.{Told, Readings, Reading, folded, unreadable, IsReading, AreReadings, TellsOnce, AnswersBy, Finds, FindsTold, TellsOn, TellsOnTold, FindHasCause}
+use Rattle.es_domain.specs.Readings.{Told, Readings, Reading, folded, unreadable, AreReadings, TellsOnce, AnswersBy, Finds, FindsTold, TellsOn, TellsOnTold}
 use Rattle.es_domain.specs.declared.aggregate.Aggregate.{Aggregate}
 use Rattle.es_domain.specs.declared.command.Command.{Command}
 use Rattle.es_domain.specs.declared.command.Decision.{Decision}
@@ -76,7 +75,3 @@ module _ (sys : System) (c : Command) (at : ℤ) where
   command_fault (Some old) (Some new) (Unreadable n) finds = λ readings are. ap (command_on sys c at) (reading_is sys old c.id new (unreadable n) finds readings are)
   command_fault (Some old) (Some new) Failed finds = λ readings are. tt
   command_fault (Some old) (Some new) NoMemory finds = λ readings are. tt
-
-pub no_memory_told : (sys : System) (told : Option Told) (decide : Readings → Decided) → DecidesTold sys told decide (Err NoMemory)
-no_memory_told sys None decide = tt
-no_memory_told sys (Some told) decide = λ readings are. tt

@@ -3,13 +3,13 @@ use Rattle.std.proofs.Common.{◌≡◌, ◌≤◌, ◌<◌, ◌-◌, Result, On
 use Rattle.std.proofs.lemmas.Grind.{common_steps}
 use Rattle.std.proofs.lemmas.Slice.Eq.{bytes_eq-Decides}
 use Rattle.std.specs.Str.{bytes_eq}
-use Rattle.es_model.specs.Rising.{IsRising, comes_last, comes_first, is_before, item_of}
+use Rattle.es_model.specs.Rising.{comes_last, is_before, item_of}
 use Rattle.es_model.specs.Values.{Name, Record, are_of_kinds, fits}
 use Rattle.es_model.specs.declared.expr.Expr.{Expr}
 use Rattle.es_model.specs.declared.value.Kind.{Kind}
 use Rattle.es_model.specs.declared.value.Value.{Value}
 use Rattle.es_expr.specs.Meaning.{den}
-use Rattle.es_expr.specs.Outcome.{Outcome, is, over, stuck}
+use Rattle.es_expr.specs.Outcome.{Outcome, is}
 use Rattle.es_expr.specs.Sound.{IsChecked, IsCheckedAs}
 use Rattle.es_domain.specs.declared.aggregate.TriggerFault.{TriggerFault}
 use Rattle.es_domain.specs.Fold.{with_value, values_of, fields_after, assigned}
@@ -19,10 +19,6 @@ with-is : (name : Name) (v : Value) (o : Option Record) → with_value name (is 
 with-is name v None = refl
 with-is name v (Some r) = refl
 
-with-over : (name : Name) (o : Option Record) → with_value name over o ≡ None
-with-over name None = refl
-with-over name (Some r) = refl
-
 behind-behind : (a b : Record) (o : Option Record) → behind a (behind b o) ≡ behind (a ++ b) o
 behind-behind a b None = refl
 behind-behind a b (Some r) = ap Some (sym (append_assoc a b r))
@@ -31,9 +27,6 @@ behind-behind a b (Some r) = ap Some (sym (append_assoc a b r))
 pub one_more : (front : Record) (name : Name) (m : Outcome) (v : Value) (o : Option Record) → m ≡ is v → behind front (with_value name m o) ≡ behind (front ++ (name, v) ∷ []) o
 one_more front name m v o same =
     ap (λ (k : Outcome). behind front (with_value name k o)) same ∙ ap (behind front) (with-is name v o) ∙ behind-behind front ((name, v) ∷ []) o
-
-pub none_more : (front : Record) (name : Name) (m : Outcome) (o : Option Record) → m ≡ over → behind front (with_value name m o) ≡ None
-none_more front name m o same = ap (λ (k : Outcome). behind front (with_value name k o)) same ∙ ap (behind front) (with-over name o)
 
 last-push : (xs : Record) (y : Name × Value) (name : Name) → comes_last (xs ++ y ∷ []) name ≡ is_before y.0 name
 last-push [] y name = refl
@@ -65,10 +58,6 @@ rest_follows {A} front new (x ∷ xs) d name v long follows same grown =
     subst (λ (ys : List (Name × A)). MayFollow new ys) (sym (rest-is x xs))
     (subst (λ r. MayFollow r xs) (sym (grown ∙ ap (λ (n : Name). front ++ (n, v) ∷ []) same)) (follows_on front x v xs follows))
 
-pub head_follows : {A : Type 0} (front : Record) (xs : List (Name × A)) (d : Name × A) (name : Name) → 1 ≤ length xs → MayFollow front xs → name ≡ (get_or xs 0 d).0 → IsTrue (comes_last front name)
-head_follows front [] d name long follows same = absurd (omega arith)
-head_follows front (x ∷ xs) d name long follows same = subst (λ n. IsTrue (comes_last front n)) (sym same) follows.0
-
 pub values_split : (front new : Record) (xs : List (Name × Expr)) (env : Record) (d e : Name × Expr) (name : Name) (v : Value) → 1 ≤ length xs → den (get_or xs 0 d).1 env ≡ is v → name ≡ (get_or xs 0 e).0 → new ≡ front ++ (name, v) ∷ []
     → behind front (values_of xs env) ≡ behind new (values_of (take (length xs - 1) (drop 1 xs)) env)
 values_split front new [] env d e name v long den-is same grown = absurd (omega arith)
@@ -76,10 +65,6 @@ values_split front new (x ∷ xs) env d e name v long den-is same grown =
     one_more front x.0 (den x.1 env) v (values_of xs env) den-is
     ∙ ap (λ (r : Record). behind r (values_of xs env)) (sym (grown ∙ ap (λ (n : Name). front ++ (n, v) ∷ []) same))
     ∙ ap (λ (ys : List (Name × Expr)). behind new (values_of ys env)) (sym (rest-is x xs))
-
-pub values_over : (front : Record) (xs : List (Name × Expr)) (env : Record) (d : Name × Expr) → 1 ≤ length xs → den (get_or xs 0 d).1 env ≡ over → behind front (values_of xs env) ≡ None
-values_over front [] env d long m = absurd (omega arith)
-values_over front (x ∷ xs) env d long m = none_more front x.0 (den x.1 env) (values_of xs env) m
 
 -- one value more of its kind
 
@@ -156,10 +141,6 @@ after_split front new (x ∷ xs) assigns env d e f name v long gives same grown 
     one_more front x.0 (assigned (item_of assigns x.0) x.1 env) v (fields_after xs assigns env) gives
     ∙ ap (λ (r : Record). behind r (fields_after xs assigns env)) (sym (grown ∙ ap (λ (n : Name). front ++ (n, v) ∷ []) same))
     ∙ ap (λ (ys : Record). behind new (fields_after ys assigns env)) (sym (rest-is x xs))
-
-pub after_over : (front : Record) (xs : Record) (assigns : List (Name × Expr)) (env : Record) (d f : Name × Value) → 1 ≤ length xs → assigned (item_of assigns (get_or xs 0 d).0) (get_or xs 0 f).1 env ≡ over → behind front (fields_after xs assigns env) ≡ None
-after_over front [] assigns env d f long m = absurd (omega arith)
-after_over front (x ∷ xs) assigns env d f long m = none_more front x.0 (assigned (item_of assigns x.0) x.1 env) (fields_after xs assigns env) m
 
 pub after_kinds_split : (r : Result (Unit {0}) TriggerFault) (old new last : Record) (xs : Record) (assigns : List (Name × Expr)) (env : Record) (d e f : Name × Value) (name : Name) (v : Value) (front wanted : List (Name × Kind))
     → 1 ≤ length xs → name ≡ (get_or xs 0 e).0 → new ≡ old ++ (name, v) ∷ [] → IsTrue (are_of_kinds old front) → IsTrue (are_of_kinds xs wanted) → AreAssignable wanted assigns env

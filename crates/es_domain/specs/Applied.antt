@@ -1,6 +1,4 @@
 -- What the parts of begin and apply answer.
-use Rattle.std.specs.Prelude.{◌≡◌, Result, Ok, Err}
-use Rattle.es_domain.specs.declared.aggregate.Aggregate.{Aggregate}
 use Rattle.es_domain.specs.declared.aggregate.ApplyFault.{ApplyFault}
 use Rattle.es_domain.specs.declared.aggregate.ApplyFault.TheVariants as apply
 use Rattle.es_domain.specs.declared.aggregate.TriggerFault.{TriggerFault}

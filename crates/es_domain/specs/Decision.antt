@@ -1,5 +1,5 @@
 -- What a command and a policy decide, by what is read of each aggregate.
-use Rattle.std.specs.Prelude.{◌≡◌, ℕ, ℤ, pos, ◌+◌, ◌<◌, ◌^◌, Bool, true, false, ◌&&◌, All, IsTrue, is_some, List, [], ◌∷◌, ◌++◌, if◌then◌else◌, Option, None, Some, Result, Ok, Err}
+use Rattle.std.specs.Prelude.{ℤ, ℕ, ◌≡◌, ◌+◌, ◌<◌, ◌^◌, Bool, true, false, ◌&&◌, All, IsTrue, is_some, List, [], ◌∷◌, ◌++◌, if◌then◌else◌, Option, None, Some, Result, Ok, Err}
 use Rattle.std.specs.List.{before_first, after_first}
 use Rattle.std.specs.Str.{bytes_eq}
 use Rattle.es_model.specs.Declaration.{app_named, event_named}
@@ -18,7 +18,7 @@ use Rattle.es_model.specs.declared.value.Value.TheVariants as value
 use Rattle.es_expr.specs.Environments.{rule_env}
 use Rattle.es_expr.specs.Limits.{is_dot}
 use Rattle.es_expr.specs.Meaning.{den}
-use Rattle.es_expr.specs.Outcome.{Outcome, is, over, stuck}
+use Rattle.es_expr.specs.Outcome.{Outcome, is}
 use Rattle.es_domain.specs.Effect.{effect, overflow_code}
 use Rattle.es_domain.specs.Fold.{values_of, id_value, version_value, moment_value}
 use Rattle.es_domain.specs.Readings.{Readings, Reading, folded, unreadable, Told, AreReadings}

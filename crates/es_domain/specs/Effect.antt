@@ -1,5 +1,5 @@
 -- What a command does to an aggregate.
-use Rattle.std.specs.Prelude.{ℕ, ℤ, pos, Bool, true, false, List, [], ◌∷◌, ◌++◌, codes, if◌then◌else◌, Option, None, Some, Result, Ok, Err}
+use Rattle.std.specs.Prelude.{ℤ, Bool, true, false, List, [], ◌∷◌, codes, if◌then◌else◌, Option, None, Some, Result, Ok, Err}
 use Rattle.std.specs.Option.{option_or}
 use Rattle.std.specs.Str.{bytes_eq}
 use Rattle.es_model.specs.Declaration.{class_named, command_in}
@@ -14,7 +14,7 @@ use Rattle.es_model.specs.declared.value.Value.TheVariants as value
 use Rattle.es_expr.specs.Environments.{creating_env, command_env}
 use Rattle.es_expr.specs.Meaning.{den}
 use Rattle.es_expr.specs.Misfits.{topic_of, is_creating}
-use Rattle.es_expr.specs.Outcome.{Outcome, is, over, stuck}
+use Rattle.es_expr.specs.Outcome.{Outcome, is, over}
 use Rattle.es_domain.specs.Fold.{begun, stepped, values_of, id_value, version_value, moment_value}
 use Rattle.es_domain.specs.Steps.{first_event, next_event, with_pending}
 use Rattle.es_domain.specs.declared.aggregate.Aggregate.{Aggregate}

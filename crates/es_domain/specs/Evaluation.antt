@@ -5,7 +5,7 @@ use Rattle.es_model.specs.Values.{Name, Record, are_of_kinds}
 use Rattle.es_model.specs.declared.expr.Expr.{Expr}
 use Rattle.es_model.specs.declared.value.Kind.{Kind}
 use Rattle.es_model.specs.declared.value.Value.{Value}
-use Rattle.es_expr.specs.Outcome.{Outcome, is, over, stuck}
+use Rattle.es_expr.specs.Outcome.{Outcome, is, over}
 use Rattle.es_expr.specs.Sound.{IsCheckedAs}
 use Rattle.es_expr.specs.declared.fault.EvalFault.{EvalFault}
 use Rattle.es_expr.specs.declared.fault.EvalFault.TheVariants as eval

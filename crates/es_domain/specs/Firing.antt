@@ -1,8 +1,8 @@
 -- When the guards and triggers of a command may be evaluated, and what triggers answer.
-use Rattle.std.specs.Prelude.{◌≡◌, ℕ, ℤ, ◌<◌, ◌+◌, ◌^◌, ◌-◌, IsTrue, All, List, [], ◌∷◌, Option, None, Some, IfSome, Result, Ok, Err}
+use Rattle.std.specs.Prelude.{ℤ, ℕ, ◌≡◌, ◌<◌, ◌+◌, ◌^◌, ◌-◌, IsTrue, All, List, [], ◌∷◌, Option, None, Some, Result, Ok, Err}
 use Rattle.es_model.specs.Declaration.{class_named, command_in}
 use Rattle.es_model.specs.Rising.{IsRising}
-use Rattle.es_model.specs.Values.{Name, Record, are_of_kinds}
+use Rattle.es_model.specs.Values.{Record, are_of_kinds}
 use Rattle.es_model.specs.declared.declaration.Class.{Class}
 use Rattle.es_model.specs.declared.declaration.CommandDef.{CommandDef}
 use Rattle.es_model.specs.declared.declaration.EventClass.{EventClass}

@@ -1,5 +1,5 @@
 -- Aggregates, as the fold of their events.
-use Rattle.std.specs.Prelude.{ℕ, ℤ, pos, ◌+◌, ◌==◌, List, [], ◌∷◌, if◌then◌else◌, Option, None, Some, Result, Ok, Err}
+use Rattle.std.specs.Prelude.{ℤ, ℕ, pos, ◌+◌, ◌==◌, List, [], ◌∷◌, if◌then◌else◌, Option, None, Some, Result, Ok, Err}
 use Rattle.std.specs.Str.{bytes_eq}
 use Rattle.es_model.specs.Declaration.{class_named, event_in, event_named, is_created}
 use Rattle.es_model.specs.Rising.{item_of}

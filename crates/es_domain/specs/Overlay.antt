@@ -1,5 +1,5 @@
 -- What is read of aggregates after earlier rules changed some, and what a rule leaves.
-use Rattle.std.specs.Prelude.{◌≡◌, ℕ, ℤ, ◌<◌, All, List, [], ◌∷◌, if◌then◌else◌, Option, None, Some, Result, Ok, Err}
+use Rattle.std.specs.Prelude.{ℤ, ℕ, ◌≡◌, ◌<◌, All, List, [], ◌∷◌, if◌then◌else◌, Option, None, Some, Result, Ok, Err}
 use Rattle.std.specs.Option.{option_or}
 use Rattle.std.specs.Str.{bytes_eq}
 use Rattle.es_model.specs.Values.{Id}

@@ -1,5 +1,5 @@
 -- What is read of an aggregate, and what a reader of aggregates has told.
-use Rattle.std.specs.Prelude.{◌≡◌, ◌≤◌, ◌<◌, ◌^◌, ℕ, All, List, [], ◌∷◌, ◌++◌, Option, None, Some, IfSome, Result, Ok, Err}
+use Rattle.std.specs.Prelude.{ℕ, ◌≡◌, ◌≤◌, ◌<◌, ◌^◌, All, List, [], ◌∷◌, ◌++◌, Option, None, Some, Result, Ok, Err}
 use Rattle.es_model.specs.Causes.{Rose}
 use Rattle.es_model.specs.Rising.{item_of}
 use Rattle.es_model.specs.Values.{Id}
@@ -109,3 +109,8 @@ TellsOnTold (Some old) (Some new) = TellsOn old new
 pub record FindHasCause {T : Type 0} (before now : ℕ) (result : Result T FindFault) : Type 0 where
   pub later : before ≤ now
   pub failed : result ≡ Err Failed → Rose before now
+
+-- a call leaves a reader's system and all else that it keeps as they were
+pub record IsSameReader {A Kept : Type 0} (system : A → System) (kept : A → Kept) (old new : A) : Type 0 where
+  pub system : system new ≡ system old
+  pub kept : kept new ≡ kept old

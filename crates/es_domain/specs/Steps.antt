@@ -1,12 +1,12 @@
 -- What the calls on one aggregate ask, and what they answer.
-use Rattle.std.specs.Prelude.{◌≡◌, ℕ, ℤ, ◌<◌, ◌+◌, ◌^◌, IsTrue, List, [], ◌∷◌, ◌++◌, Option, None, Some, IfSome, Result, Ok, Err}
+use Rattle.std.specs.Prelude.{ℤ, ◌≡◌, ◌+◌, IsTrue, [], ◌∷◌, ◌++◌, Option, None, Some, IfSome, Result, Ok, Err}
 use Rattle.es_model.specs.Declaration.{class_named, event_named}
 use Rattle.es_model.specs.Values.{Name, Id, Record, are_of_kinds}
 use Rattle.es_model.specs.declared.declaration.Class.{Class}
 use Rattle.es_model.specs.declared.declaration.EventClass.{EventClass}
 use Rattle.es_model.specs.declared.declaration.System.{System}
 use Rattle.es_model.specs.declared.domain_event.DomainEvent.{DomainEvent}
-use Rattle.es_domain.specs.Fold.{begun, stepped, later_in}
+use Rattle.es_domain.specs.Fold.{later_in}
 use Rattle.es_domain.specs.declared.aggregate.Aggregate.{Aggregate}
 use Rattle.es_domain.specs.declared.aggregate.ApplyFault.{ApplyFault}
 use Rattle.es_domain.specs.declared.aggregate.ApplyFault.TheVariants as apply

@@ -1,4 +1,3 @@
-ghost use Rattle.std.specs.Prelude.{◌≡◌, IfOk};
 
 use es_model::{DomainEvents, Duplicate, Fields, NoMemory, Text};
 use uuid::Uuid;

@@ -3,7 +3,7 @@ ghost use Rattle.es_model.specs.Declaration.{app_named};
 ghost use Rattle.es_expr.specs.Checked.{IsCheckedSystem};
 ghost use Rattle.es_domain.specs.Decision.{command_decision, decision_of, policy_decision, notice, DecidesTold, AreNewEvents, IsOfCommand, IsNotice};
 ghost use Rattle.es_domain.specs.Effect.{command_named};
-ghost use Rattle.es_domain.specs.Readings.{TellsOnTold, FindHasCause};
+ghost use Rattle.es_domain.specs.Readings.{TellsOnTold, FindHasCause, IsSameReader};
 
 use crate::effect::{Effect, effect_on};
 use crate::rules::run_rules;
@@ -35,8 +35,7 @@ pub fn decide_command<A: Aggregates>(
     ensures decision { DecidesTold sys.now (A.told reader.new) (command_decision sys.now command.now at) result }
     ensures events { IfOk result (AreNewEvents sys.now) }
     ensures tells { TellsOnTold (A.told reader.old) (A.told reader.new) }
-    ensures same_system { A.system reader.new ≡ A.system reader.old }
-    ensures kept { A.kept reader.new ≡ A.kept reader.old }
+    ensures same { IsSameReader A.system A.kept reader.old reader.new }
     ensures cause { FindHasCause (A.faults reader.old) (A.faults reader.new) result }
 {
     let found = match reader.find(command.id) {
@@ -67,8 +66,7 @@ pub fn decide_policy<A: Aggregates>(
     ensures decision { DecidesTold sys.now (A.told reader.new) (policy_decision sys.now app.now (notice leader.now id event.now) at) result }
     ensures events { IfOk result (AreNewEvents sys.now) }
     ensures tells { TellsOnTold (A.told reader.old) (A.told reader.new) }
-    ensures same_system { A.system reader.new ≡ A.system reader.old }
-    ensures kept { A.kept reader.new ≡ A.kept reader.old }
+    ensures same { IsSameReader A.system A.kept reader.old reader.new }
     ensures cause { FindHasCause (A.faults reader.old) (A.faults reader.new) result }
 {
     let Some(follower) = sys.app(app.as_str()) else {

@@ -1,5 +1,5 @@
 //! What a command does to an aggregate.
-ghost use Rattle.std.specs.Prelude.{◌≡◌, ◌<◌, ◌≤◌, ◌^◌, ◌+◌, ℕ, None, Some, IfOk, IfSome, OnOk, length};
+ghost use Rattle.std.specs.Prelude.{ℕ, ◌≡◌, ◌<◌, ◌≤◌, ◌^◌, ◌+◌, None, Some, IfOk, IfSome, OnOk, length};
 ghost use Rattle.es_model.specs.Declaration.{class_named};
 ghost use Rattle.es_expr.specs.Checked.{IsCheckedSystem};
 ghost use Rattle.es_expr.specs.Meaning.{den};

@@ -1,7 +1,7 @@
-ghost use Rattle.std.specs.Prelude.{◌≡◌, ℕ, Option, IfOk, IfSome};
+ghost use Rattle.std.specs.Prelude.{ℕ, ◌≡◌, Option, IfOk, IfSome};
 ghost use Rattle.es_model.specs.declared.declaration.System.{System};
 ghost use Rattle.es_expr.specs.Checked.{IsCheckedSystem};
-ghost use Rattle.es_domain.specs.Readings.{Told, FindsTold, IsFound, FindHasCause};
+ghost use Rattle.es_domain.specs.Readings.{Told, FindsTold, IsFound, FindHasCause, IsSameReader};
 
 use crate::Aggregate;
 use es_model::NoMemory;
@@ -52,7 +52,6 @@ pub trait Aggregates {
         requires { IsCheckedSystem (system self.old) }
         ensures answer { FindsTold (system self.old) (told self.old) id (told self.new) result }
         ensures found { IfOk result (λ found. IfSome found (IsFound (system self.old) id)) }
-        ensures same_system { system self.new ≡ system self.old }
-        ensures kept { kept self.new ≡ kept self.old }
+        ensures same { IsSameReader system kept self.old self.new }
         ensures cause { FindHasCause (faults self.old) (faults self.new) result };
 }

@@ -19,6 +19,3 @@ pub use aggregate::{Aggregate, ApplyFault, TriggerFault};
 pub use command::{Command, Decision};
 pub use decide::{decide_command, decide_policy};
 pub use find::{Aggregates, FindFault};
-
-#[cfg(test)]
-mod tests;

@@ -1,5 +1,5 @@
 //! How the rules of a policy run, one after the other.
-ghost use Rattle.std.specs.Prelude.{◌≡◌, ◌<◌, ◌≤◌, ◌^◌, ◌+◌, ◌-◌, ◌*◌, ◌++◌, ℕ, All, Some, Ok, IfOk, IfSome, OnOk, length};
+ghost use Rattle.std.specs.Prelude.{ℕ, ◌≡◌, ◌<◌, ◌≤◌, ◌^◌, ◌+◌, ◌-◌, ◌*◌, ◌++◌, All, Some, Ok, IfOk, IfSome, OnOk, length};
 ghost use Rattle.std.specs.Option.{option_copied};
 ghost use Rattle.es_model.specs.declared.declaration.System.{System};
 ghost use Rattle.es_expr.specs.Checked.{IsCheckedSystem};
@@ -7,7 +7,7 @@ ghost use Rattle.es_domain.specs.Asking.{MayBeAsked, AllMayBeAsked, IsAsked};
 ghost use Rattle.es_domain.specs.Decision.{Decided, DecidesTold, AreNewEvents, IsNewEvent, IsOfCommand, after_asked, after_effect, asked, joined, notice, rules_from};
 ghost use Rattle.es_domain.specs.Effect.{command_named};
 ghost use Rattle.es_domain.specs.Overlay.{AnswersTold, LeavesTold, AreBelow, IsBelow, IsEffectBelow, IsNewStep, after_some, after_step, effect_asked, effect_by, found_of, latest, overlaid};
-ghost use Rattle.es_domain.specs.Readings.{Readings, TellsOnTold, FindHasCause};
+ghost use Rattle.es_domain.specs.Readings.{Readings, TellsOnTold, FindHasCause, IsSameReader};
 ghost use Rattle.es_domain.specs.declared.effect.Effect.TheVariants.{Refused};
 
 use crate::effect::{Effect, effect_on};
@@ -50,8 +50,7 @@ fn find<A: Aggregates>(
     ensures answer { AnswersTold (A.system reader.old) (A.told reader.new) (λ readings. found_of (overlaid changed.now readings id)) result }
     ensures below { (limit : ℕ) → 2 ^ 62 ≤ limit → AreBelow (A.system reader.old) limit changed.now → IfOk result (λ found. IfSome found (IsBelow (A.system reader.old) limit)) }
     ensures tells { TellsOnTold (A.told reader.old) (A.told reader.new) }
-    ensures same_system { A.system reader.new ≡ A.system reader.old }
-    ensures kept { A.kept reader.new ≡ A.kept reader.old }
+    ensures same { IsSameReader A.system A.kept reader.old reader.new }
     ensures cause { FindHasCause (A.faults reader.old) (A.faults reader.new) result }
 {
     match latest(changed, id) {
@@ -79,8 +78,7 @@ fn effect_by<A: Aggregates>(
     ensures answer { AnswersTold sys.now (A.told reader.new) (λ readings. effect_by sys.now command.now at (overlaid changed.now readings command.now.id)) result }
     ensures below { (limit : ℕ) → 2 ^ 62 ≤ limit → AreBelow sys.now limit changed.now → IfOk result (IsEffectBelow sys.now (limit + 8)) }
     ensures tells { TellsOnTold (A.told reader.old) (A.told reader.new) }
-    ensures same_system { A.system reader.new ≡ A.system reader.old }
-    ensures kept { A.kept reader.new ≡ A.kept reader.old }
+    ensures same { IsSameReader A.system A.kept reader.old reader.new }
     ensures cause { FindHasCause (A.faults reader.old) (A.faults reader.new) result }
 {
     let found = match find(reader, changed, command.id) {
@@ -109,8 +107,7 @@ fn effect_asked<A: Aggregates>(
     ensures answer { AnswersTold sys.now (A.told reader.new) (λ readings. effect_asked sys.now at asked.now (overlaid changed.now readings)) result }
     ensures below { (limit : ℕ) → 2 ^ 62 ≤ limit → AreBelow sys.now limit changed.now → IfOk result (IsEffectBelow sys.now (limit + 8)) }
     ensures tells { TellsOnTold (A.told reader.old) (A.told reader.new) }
-    ensures same_system { A.system reader.new ≡ A.system reader.old }
-    ensures kept { A.kept reader.new ≡ A.kept reader.old }
+    ensures same { IsSameReader A.system A.kept reader.old reader.new }
     ensures cause { FindHasCause (A.faults reader.old) (A.faults reader.new) result }
 {
     match asked {
@@ -194,8 +191,7 @@ fn run_rule<A: Aggregates>(
     ensures below { (limit : ℕ) → 2 ^ 62 ≤ limit → AreBelow sys.now limit changed.old → OnOk result (AreBelow sys.now (limit + 8) changed.new) }
     ensures new { IfOk result (IsNewStep sys.now) }
     ensures tells { TellsOnTold (A.told reader.old) (A.told reader.new) }
-    ensures same_system { A.system reader.new ≡ A.system reader.old }
-    ensures kept { A.kept reader.new ≡ A.kept reader.old }
+    ensures same { IsSameReader A.system A.kept reader.old reader.new }
     ensures cause { FindHasCause (A.faults reader.old) (A.faults reader.new) result }
 {
     let asked = match ask(alloc, sys, rule, leader, id, event) {
@@ -259,8 +255,7 @@ pub(crate) fn run_rules<A: Aggregates>(
     ensures decision { DecidesTold sys.now (A.told reader.new) (λ readings. rules_from sys.now (notice leader.now id event.now) at number rules.now (overlaid changed readings)) result }
     ensures events { IfOk result (AreNewEvents sys.now) }
     ensures tells { TellsOnTold (A.told reader.old) (A.told reader.new) }
-    ensures same_system { A.system reader.new ≡ A.system reader.old }
-    ensures kept { A.kept reader.new ≡ A.kept reader.old }
+    ensures same { IsSameReader A.system A.kept reader.old reader.new }
     ensures cause { FindHasCause (A.faults reader.old) (A.faults reader.new) result }
 {
     let (rule, rest) = match rules {

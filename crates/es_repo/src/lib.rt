@@ -12,6 +12,3 @@ mod verdict;
 
 pub use judge::{judge_command, judge_policy};
 pub use verdict::Verdict;
-
-#[cfg(test)]
-mod tests;

@@ -1,4 +1,4 @@
-use Rattle.std.proofs.Common.{◌≡◌, ◌∙◌, ap}
+use Rattle.std.proofs.Common.{◌∙◌, ap}
 use Rattle.es_domain.specs.Decision.{decision_of}
 use Rattle.es_domain.proofs.ToldLemmas.{command_told, command_fault, found_tells}
 use Rattle.es_domain.proofs.decide.decide_command.Goals as goal

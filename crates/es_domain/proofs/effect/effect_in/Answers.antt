@@ -1,6 +1,6 @@
-use Rattle.std.proofs.Common.{◌≡◌, ◌≤◌, Bool, None, length, sym, subst, ap, ◌∙◌, rules}
+use Rattle.std.proofs.Common.{◌≡◌, ◌≤◌, Bool, None, length, sym, subst, ap, ◌∙◌}
 use Rattle.es_expr.specs.Misfits.{is_creating}
-use Rattle.es_domain.specs.Effect.{misplaced, seen}
+use Rattle.es_domain.specs.Effect.{misplaced}
 use Rattle.es_domain.specs.Firing.{AreTests, CanRun}
 use Rattle.es_domain.proofs.FiringLemmas.{placed_ready}
 use Rattle.es_domain.proofs.FoldLemmas.{created_class}

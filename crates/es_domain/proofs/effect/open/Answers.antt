@@ -1,4 +1,4 @@
-use Rattle.std.proofs.Common.{◌≡◌, IsTrue, sym, subst}
+use Rattle.std.proofs.Common.{IsTrue, sym, subst}
 use Rattle.es_model.specs.Values.{are_of_kinds}
 use Rattle.es_domain.specs.Evaluation.{AreChecked}
 use Rattle.es_domain.specs.Steps.{IsOfEvent, created_in}

@@ -1,7 +1,8 @@
 use Rattle.std.proofs.Common.{◌≡◌, true, rules}
 use Rattle.es_model.specs.Declaration.{is_created}
 use Rattle.es_domain.proofs.FoldLemmas.{of_class}
-use Rattle.es_domain.proofs.Projections.{created_checked, class_is_named}
+use Rattle.es_expr.proofs.UniqueLemmas.{class-of-topic}
+use Rattle.es_domain.proofs.Projections.{created_checked}
 use Rattle.es_domain.proofs.fold.begin_by.Goals as goal
 
 pub created-requires : goal.created-requires
@@ -12,5 +13,5 @@ created-requires c =
 pub returns-in-Ok-clause-fields : goal.returns-in-Ok-clause-fields
 returns-in-Ok-clause-fields c =
     of_class c.args.sys.now c.args.class.now c.in-Ok.aggregate.class c.in-Ok.aggregate.fields
-    (class_is_named c.args.sys.now c.args.class.now c.args.event_class.now c.args.event.now.topic c.requires.checked c.requires.declared)
+    (class-of-topic c.args.sys.now c.args.class.now c.args.event_class.now c.args.event.now.topic c.requires.checked c.requires.declared)
     c.in-Ok.ensures.class c.in-Ok.ensures.fields

@@ -37,7 +37,7 @@ run_rules-after-requires g t c κs within =
         (
           c.requires.checked,
           (
-            c.in-Ok.ensures.same_system ∙ c.requires.system,
+            c.in-Ok.ensures.same.system ∙ c.requires.system,
             (
               c.requires.id,
               (

@@ -8,4 +8,4 @@ pub returns-clause-decision : goal.returns-clause-decision
 returns-clause-decision g c = λ h is.
     let reader = c.decide_policy-decided.new.reader in
     decided-over c.args.sys.now h reader.asked (g.R.AggregateRecorder.history reader.recorder.now) (policy_decision c.args.sys.now c.args.app.now (notice c.args.leader.now c.args.id c.args.event.now) c.args.at) c.decide_policy-decided.result
-    (ap (λ (k : Kept). k.history) c.decide_policy-decided.ensures.kept ∙ is) c.decide_policy-decided.ensures.decision
+    (ap (λ (k : Kept). k.history) c.decide_policy-decided.ensures.same.kept ∙ is) c.decide_policy-decided.ensures.decision

@@ -1,4 +1,4 @@
-use Rattle.std.proofs.Common.{◌≡◌, Some, Err, refl, sym, rules}
+use Rattle.std.proofs.Common.{◌≡◌, Some, rules}
 use Rattle.es_model.specs.Declaration.{class_named}
 use Rattle.es_domain.proofs.FoldLemmas.{create_fits, create_ok, create_err, created_class, of_class}
 use Rattle.es_domain.proofs.aggregate.Aggregate.create.Goals as goal
