@@ -21,10 +21,11 @@ use Rattle.es_expr.proofs.RulesLemmas.{IsTestWhere, IsRule, AreRules, rules-fit}
 use Rattle.es_expr.proofs.TopicLemmas.{passed}
 use Rattle.es_expr.specs.Checked.{IsCheckedSystem}
 use Rattle.es_expr.specs.Environments.{created_env, rule_env}
-use Rattle.es_expr.specs.Limits.{is_app_within, are_apps_within, are_pipes_within, are_rules_within, is_absent_or_between, is_between, is_class_within, is_lower_name, is_rule_within, has_lower_form, has_name_length}
+use Rattle.es_model.specs.Names.{is_between, is_lower_name, has_lower_form, has_name_length}
+use Rattle.es_expr.specs.Limits.{is_app_within, are_apps_within, are_pipes_within, are_rules_within, is_absent_or_between, is_class_within, is_rule_within}
 use Rattle.es_expr.specs.Misfits.{on_env, text, uuid, moment, whole}
 use Rattle.es_expr.specs.Sound.{Fits}
-use Rattle.es_domain.specs.Asking.{CanBeTested, MayBeAsked, AllMayBeAsked, definition_in}
+use Rattle.es_domain.specs.inner.Asking.{CanBeTested, MayBeAsked, AllMayBeAsked, definition_in}
 use Rattle.es_domain.specs.Decision.{Notice, IsNotice, IsOfCommand, shown}
 use Rattle.es_domain.specs.Effect.{command_named, declared_in, with_def}
 use Rattle.es_domain.specs.Fold.{id_value, moment_value, version_value}

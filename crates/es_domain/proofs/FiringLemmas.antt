@@ -13,7 +13,7 @@ use Rattle.es_model.specs.declared.domain_event.DomainEvent.{DomainEvent}
 use Rattle.es_expr.specs.Checked.{IsCheckedSystem}
 use Rattle.es_domain.specs.Decision.{IsNewEvent}
 use Rattle.es_domain.specs.Effect.{made, fired, all_fired, misplaced, class_code}
-use Rattle.es_domain.specs.Firing.{IsReady, IsKnown, IsEffect, IsNewEffect, CanAllFire, MakesOf}
+use Rattle.es_domain.specs.inner.Firing.{IsReady, IsKnown, IsEffect, IsNewEffect, CanAllFire, MakesOf}
 use Rattle.es_domain.specs.Fold.{begun, stepped, later_in, created_with, fields_at_first}
 use Rattle.es_domain.specs.Steps.{IsOfClass, IsOfTopic, HasItsFields, created_topic, first_event, next_event, with_pending, Triggers, TriggersOn}
 use Rattle.es_domain.specs.declared.aggregate.Aggregate.{Aggregate}
@@ -88,7 +88,6 @@ none_fired sys k c at [] = refl
 none_fired sys k c at (t ∷ ts) = refl
 
 module _ (sys : System) (k : Class) (c : Command) (at : ℤ) (old : Aggregate) where
-
   pub fired_err : (ts : List Trigger) (d : Trigger) (new : Aggregate) (fault : TriggerFault) → 1 ≤ length ts → MakesOf (fired sys k c at (get_or ts 0 d) old) new (Err fault) → MakesOf (all_fired sys k c at ts (Some old)) new (Err fault)
   fired_err [] d new fault long is = absurd (omega arith)
   fired_err (t ∷ ts) d new trigger.Overflow long is = ap (all_fired sys k c at ts) is ∙ none_fired sys k c at ts

@@ -10,7 +10,7 @@ use Rattle.es_model.specs.declared.declaration.System.{System}
 use Rattle.es_model.specs.declared.domain_event.DomainEvent.{DomainEvent}
 use Rattle.es_model.specs.declared.value.Kind.{Kind}
 use Rattle.es_expr.specs.Checked.{IsCheckedSystem}
-use Rattle.es_domain.specs.Evaluation.{AreChecked, AreAssignable, CanBeAssigned}
+use Rattle.es_domain.specs.inner.Evaluation.{AreChecked, AreAssignable, CanBeAssigned}
 use Rattle.es_domain.specs.Fold.{first_env, before_env, later_in, begun, created_with, fields_at_first}
 use Rattle.es_domain.specs.Steps.{IsOfClass, IsOfEvent, created_in, created_topic, first_event, with_pending, Triggers}
 use Rattle.es_domain.specs.declared.aggregate.Aggregate.{Aggregate}

@@ -1,6 +1,6 @@
 -- A command adds at most eight events.
 use Rattle.std.proofs.Common.{ℤ, ℕ, ◌≡◌, ◌<◌, ◌≤◌, ◌+◌, ◌^◌, length, List, [], ◌∷◌, Option, None, Some, IfSome, refl, sym, ap, ◌∙◌, arith}
-use Rattle.es_model.specs.Declaration.{class_named, command_in}
+use Rattle.es_model.specs.Declaration.{class_named, command_in, is_creating}
 use Rattle.es_model.specs.Values.{Name, Record}
 use Rattle.es_model.specs.declared.declaration.Class.{Class}
 use Rattle.es_model.specs.declared.declaration.CommandDef.{CommandDef}
@@ -8,12 +8,12 @@ use Rattle.es_model.specs.declared.declaration.System.{System}
 use Rattle.es_model.specs.declared.declaration.Trigger.{Trigger}
 use Rattle.es_model.specs.declared.domain_event.DomainEvent.{DomainEvent}
 use Rattle.es_expr.specs.Checked.{IsCheckedSystem}
-use Rattle.es_expr.specs.Misfits.{topic_of, is_creating}
+use Rattle.es_model.specs.Names.{topic_of}
 use Rattle.es_domain.specs.Decision.{IsOfCommand}
 use Rattle.es_domain.specs.Effect.{all_fired, declared_in, effect, effect_declared, effect_in, effect_of, fired, fired_with, guarded, misplaced, opened, opened_with, seen, triggered, unless_refused, with_def}
-use Rattle.es_domain.specs.Firing.{IsNewEffect}
+use Rattle.es_domain.specs.inner.Firing.{IsNewEffect}
 use Rattle.es_domain.specs.Fold.{begun, stepped, values_of}
-use Rattle.es_domain.specs.Overlay.{IsBelow, IsEffectBelow}
+use Rattle.es_domain.specs.inner.Overlay.{IsBelow, IsEffectBelow}
 use Rattle.es_domain.specs.Steps.{first_event, next_event}
 use Rattle.es_domain.specs.declared.aggregate.Aggregate.{Aggregate}
 use Rattle.es_domain.specs.declared.command.Command.{Command}
@@ -47,7 +47,7 @@ module _ (sys : System) (k : Class) (c : Command) (at : ℤ) where
   all-grown (t ∷ ts) a b is = elim (fired sys k c at t a) as (λ o. fired sys k c at t a ≡ o → all_fired sys k c at ts o ≡ Some b → b.version ≡ a.version + length (t ∷ ts)) [
     | None ↦ λ one h. absurd (cc (sym (none_fired sys k c at ts) ∙ h))
     | Some x ↦ λ one h.
-        let first = fired-one sys (topic_of k t.event) at a (values_of t.fields (seen c at (Some a))) x one in
+        let first = fired-one sys (topic_of k.name t.event) at a (values_of t.fields (seen c at (Some a))) x one in
         let more = all-grown ts x b h in
         omega (arith, first, more)
   ] refl is

@@ -13,7 +13,7 @@ use Rattle.es_expr.specs.Kinds.{Env, kind_of}
 use Rattle.es_expr.specs.Misfits.{has_all}
 use Rattle.es_expr.specs.Sound.{Fits}
 use Rattle.es_expr.proofs.CheckedLemmas.{AreOfKinds, AreAllOfKinds}
-use Rattle.es_domain.specs.Evaluation.{AreChecked, AreAssignable}
+use Rattle.es_domain.specs.inner.Evaluation.{AreChecked, AreAssignable}
 use Rattle.es_domain.proofs.ToldLemmas.{item-cons}
 use Rattle.es_domain.proofs.ValuesLemmas.{kinds-parts}
 

@@ -3,7 +3,7 @@ use Rattle.std.proofs.Common.{ℤ, ℕ, ◌≡◌, ◌∙◌, ◌+◌, ◌==◌,
 use Rattle.std.specs.Str.{bytes_eq}
 use Rattle.std.proofs.lemmas.Bool.Decides.{Decides-eqb}
 use Rattle.std.proofs.lemmas.Slice.Eq.{bytes_eq-Decides}
-use Rattle.es_model.specs.Declaration.{app_named, class_named, event_named, is_created}
+use Rattle.es_model.specs.Declaration.{app_named, class_named, event_named, is_created, is_creating}
 use Rattle.es_model.specs.Values.{Name, Id, Record}
 use Rattle.es_model.specs.declared.declaration.Class.{Class}
 use Rattle.es_model.specs.declared.declaration.CommandDef.{CommandDef}
@@ -14,7 +14,7 @@ use Rattle.es_model.specs.declared.declaration.Rule.{Rule}
 use Rattle.es_model.specs.declared.declaration.System.{System}
 use Rattle.es_model.specs.declared.declaration.Trigger.{Trigger}
 use Rattle.es_model.specs.declared.domain_event.DomainEvent.{DomainEvent}
-use Rattle.es_expr.specs.Misfits.{topic_of, is_creating}
+use Rattle.es_model.specs.Names.{topic_of}
 use Rattle.es_domain.specs.Decision.{Decided, Notice, command_on, decision_of, asked, after_change, joined, after_effect, after_reading, after_asked, rules_from, rules_of, policy_decision, command_decision}
 use Rattle.es_domain.specs.Effect.{made, misplaced, seen, guarded, opened_with, opened, fired_with, fired, all_fired, triggered, effect_of, unless_refused, effect_declared, command_named, effect, overflow_code}
 use Rattle.es_domain.specs.Fold.{advanced, begun, begun_by, created_with, fields_at_first, stepped, stepped_by, later_in, changed_to, fields_then, values_of}
@@ -232,7 +232,7 @@ module _ (sys : System) where
     all-grow id version [] None b grows is = absurd (cc is)
     all-grow id version [] (Some a) b grows is = let same : a ≡ b = cc in subst (Grows id version) same grows
     all-grow id version (t ∷ ts) None b grows is = absurd (cc is)
-    all-grow id version (t ∷ ts) (Some a) b grows is = all-grow id version ts (fired sys k c at t a) b (fired-some (fired sys k c at t a) (λ x. fired-grows (topic_of k t.event) at id version a (values_of t.fields (seen c at (Some a))) x grows)) is
+    all-grow id version (t ∷ ts) (Some a) b grows is = all-grow id version ts (fired sys k c at t a) b (fired-some (fired sys k c at t a) (λ x. fired-grows (topic_of k.name t.event) at id version a (values_of t.fields (seen c at (Some a))) x grows)) is
       where
         fired-some : (o : Option Aggregate) → ((x : Aggregate) → o ≡ Some x → Grows id version x) → IfSome o (Grows id version)
         fired-some None all = tt

@@ -5,8 +5,8 @@ use Rattle.std.specs.Str.{bytes_eq}
 use Rattle.es_model.specs.Values.{Id}
 use Rattle.es_model.specs.declared.declaration.System.{System}
 use Rattle.es_domain.specs.Decision.{after_change}
-use Rattle.es_domain.specs.Firing.{IsKnown}
-use Rattle.es_domain.specs.Overlay.{AnswersTold, AreBelow, IsBelow, found_of, latest, overlaid}
+use Rattle.es_domain.specs.inner.Firing.{IsKnown}
+use Rattle.es_domain.specs.inner.Overlay.{AnswersTold, AreBelow, IsBelow, found_of, latest, overlaid}
 use Rattle.es_domain.specs.Readings.{AreReadings, FindsTold, IsFound, Readings, TellsOn, TellsOnTold, Told, folded, unreadable}
 use Rattle.es_domain.specs.Steps.{collected}
 use Rattle.es_domain.specs.declared.aggregate.Aggregate.{Aggregate}

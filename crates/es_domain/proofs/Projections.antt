@@ -4,7 +4,7 @@ use Rattle.std.proofs.lemmas.Bool.Decides.{nat_tests}
 use Rattle.std.specs.List.{list_all}
 use Rattle.std.specs.Prelude.{find}
 use Rattle.std.specs.Str.{bytes_eq}
-use Rattle.es_model.specs.Declaration.{class_named, event_in, event_named, is_created}
+use Rattle.es_model.specs.Declaration.{class_named, event_in, event_named, is_created, is_creating}
 use Rattle.es_model.specs.Rising.{IsRising}
 use Rattle.es_model.specs.Values.{Name, Record, are_of_kinds, fits}
 use Rattle.es_model.specs.declared.declaration.Class.{Class}
@@ -18,13 +18,14 @@ use Rattle.es_model.specs.declared.value.Kind.{Kind}
 use Rattle.es_model.specs.declared.value.Value.{Value}
 use Rattle.es_expr.specs.Checked.{IsCheckedSystem}
 use Rattle.es_expr.specs.Environments.{prefixed, creating_env, command_env, created_env, assign_env}
-use Rattle.es_expr.specs.Limits.{is_upper_name, is_field_name, is_class_within, is_event_within, is_command_within, are_events_within, are_commands_within, are_numbers_within, are_kinds_within, are_guards_within, are_triggers_within, is_trigger_within, is_lower_name, is_between}
+use Rattle.es_model.specs.Names.{is_upper_name, is_field_name, is_lower_name, is_between, topic_of}
+use Rattle.es_expr.specs.Limits.{is_class_within, is_event_within, is_command_within, are_events_within, are_commands_within, are_numbers_within, are_kinds_within, are_guards_within, are_triggers_within, is_trigger_within}
 use Rattle.es_expr.specs.Sound.{Fits}
-use Rattle.es_expr.specs.Misfits.{is_creating, each, uuid, moment, whole, topic_of, command_part_misfits, trigger_env, first_env as seen_first_env}
+use Rattle.es_expr.specs.Misfits.{uuid, moment, whole, command_part_misfits, trigger_env, first_env as seen_first_env}
 use Rattle.es_domain.specs.Effect.{misplaced, seen}
-use Rattle.es_domain.specs.Firing.{AreTests, CanOpen, CanFire, CanAllFire, CanRun, IsCommandOf, IsReady}
+use Rattle.es_domain.specs.inner.Firing.{AreTests, CanOpen, CanFire, CanAllFire, CanRun, IsCommandOf, IsReady}
 use Rattle.es_domain.specs.declared.command.Command.{Command}
-use Rattle.es_domain.specs.Evaluation.{AreChecked, AreAssignable}
+use Rattle.es_domain.specs.inner.Evaluation.{AreChecked, AreAssignable}
 use Rattle.es_expr.proofs.CheckedLemmas.{AreAllOfKinds, AreTests as AreKinds, AreTriggers, class-fits, created-fits, later-fits, command-fits, guards-fit, triggers-fit}
 use Rattle.es_expr.proofs.TopicLemmas.{class-within, passed}
 use Rattle.es_expr.proofs.UniqueLemmas.{class-of-topic, declares}
@@ -176,22 +177,22 @@ later-is k topic later = elim (is_created k topic) as (λ b. b ≡ false → (if
 not-zero : (n : ℕ) → (suc n == 0) ≡ false
 not-zero n = grind (arith, nat_tests)
 
-module _ (k : Class) (d : CommandDef) (c : Command) (at : ℤ) (t : Trigger) (event : EventClass) (are : IsTrue (are_of_kinds c.args d.params)) (declared : event_in k (topic_of k t.event) ≡ Some event) where
+module _ (k : Class) (d : CommandDef) (c : Command) (at : ℤ) (t : Trigger) (event : EventClass) (are : IsTrue (are_of_kinds c.args d.params)) (declared : event_in k (topic_of k.name t.event) ≡ Some event) where
   -- a trigger of a later event may fire
-  may-fire : is_created k (topic_of k t.event) ≡ false → AreAllOfKinds event.fields (command_env d.params uuid moment k.fields whole) t.fields → CanFire k c at t
+  may-fire : is_created k (topic_of k.name t.event) ≡ false → AreAllOfKinds event.fields (command_env d.params uuid moment k.fields whole) t.fields → CanFire k c at t
   may-fire later fields =
       let env : List (Name × Kind) = command_env d.params uuid moment k.fields whole in
       record {
         event = event;
-        later = later-is k (topic_of k t.event) later ∙ declared;
+        later = later-is k (topic_of k.name t.event) later ∙ declared;
         gives = λ rising names a its. all_named_checked event.fields env t.fields (seen c at (Some a)) (fits-env (seen c at (Some a)) env (seen-of c at d.params k.fields a are its)) rising names fields;
       }
 
   -- and one of the Created event may open
-  may-open : is_created k (topic_of k t.event) ≡ true → AreAllOfKinds event.fields (creating_env d.params uuid moment) t.fields → CanOpen k c at t
+  may-open : is_created k (topic_of k.name t.event) ≡ true → AreAllOfKinds event.fields (creating_env d.params uuid moment) t.fields → CanOpen k c at t
   may-open created fields =
       let env : List (Name × Kind) = creating_env d.params uuid moment in
-      let same : event ≡ k.created = created-event k (topic_of k t.event) event created declared in
+      let same : event ≡ k.created = created-event k (topic_of k.name t.event) event created declared in
       λ rising names. all_named_checked k.created.fields env t.fields (seen c at None) (fits-env (seen c at None) env (seen-first c at d.params are)) rising names
       (subst (λ (e : EventClass). AreAllOfKinds e.fields env t.fields) same fields)
 
@@ -209,7 +210,7 @@ later-env k d n = rw (not-zero n) refl
 fire-from : (k : Class) (d : CommandDef) (c : Command) (at : ℤ) (n : ℕ) (ts : List Trigger) → IsTrue (are_of_kinds c.args d.params) → AreTriggers k d (suc n) ts → CanAllFire k c at ts
 fire-from k d c at n [] are each = tt
 fire-from k d c at n (t ∷ ts) are (g, each) = (
-  may-fire k d c at t g.event are g.declared (later-place n (is_created k (topic_of k t.event)) g.in_order)
+  may-fire k d c at t g.event are g.declared (later-place n (is_created k (topic_of k.name t.event)) g.in_order)
       (subst (λ env. AreAllOfKinds g.event.fields env t.fields) (later-env k d n) g.fields),
   fire-from k d c at (suc n) ts are each,
 )
@@ -223,7 +224,7 @@ some-placed true k a placed = absurd (cc placed)
 some-placed false k a placed = refl
 
 -- what the first trigger sees
-first-sees : (k : Class) (d : CommandDef) (t : Trigger) (ts : List Trigger) (fields : List (Name × Kind)) (b : Bool) → d.triggers ≡ t ∷ ts → is_created k (topic_of k t.event) ≡ b → AreAllOfKinds fields (trigger_env k d 0) t.fields
+first-sees : (k : Class) (d : CommandDef) (t : Trigger) (ts : List Trigger) (fields : List (Name × Kind)) (b : Bool) → d.triggers ≡ t ∷ ts → is_created k (topic_of k.name t.event) ≡ b → AreAllOfKinds fields (trigger_env k d 0) t.fields
     → AreAllOfKinds fields (if b then creating_env d.params uuid moment else command_env d.params uuid moment k.fields whole) t.fields
 first-sees k d t ts fields b same is gives =
     subst (λ x. AreAllOfKinds fields (if x then creating_env d.params uuid moment else command_env d.params uuid moment k.fields whole) t.fields) (ap (is_creating k) same ∙ is) gives
@@ -232,10 +233,10 @@ run-from : (sys : System) (k : Class) (d : CommandDef) (c : Command) (at : ℤ) 
     → misplaced (is_creating k ts) k found ≡ None → AreTriggers k d 0 ts → CanRun k c at ts found
 run-from sys k d c at [] found same long are placed each = absurd (omega arith)
 run-from sys k d c at (t ∷ ts) None same long are placed (g, each) =
-    let created = none-placed (is_created k (topic_of k t.event)) k placed in
+    let created = none-placed (is_created k (topic_of k.name t.event)) k placed in
     (may-open k d c at t g.event are g.declared created (first-sees k d t ts g.event.fields true same created g.fields), fire-from k d c at 0 ts are each)
 run-from sys k d c at (t ∷ ts) (Some a) same long are placed (g, each) =
-    let later = some-placed (is_created k (topic_of k t.event)) k a placed in
+    let later = some-placed (is_created k (topic_of k.name t.event)) k a placed in
     (may-fire k d c at t g.event are g.declared later (first-sees k d t ts g.event.fields false same later g.fields), fire-from k d c at 0 ts are each)
 
 -- and its triggers give the fields of their events

@@ -5,10 +5,10 @@ use Rattle.es_model.specs.declared.declaration.System.{System}
 use Rattle.es_model.specs.declared.domain_event.DomainEvent.{DomainEvent}
 use Rattle.es_model.specs.Values.{Name}
 use Rattle.es_model.specs.declared.declaration.Rule.{Rule}
-use Rattle.es_domain.specs.Asking.{AllMayBeAsked}
+use Rattle.es_domain.specs.inner.Asking.{AllMayBeAsked}
 use Rattle.es_domain.specs.Decision.{Decided, DecidesTold, Notice, after_asked, after_change, after_effect, after_reading, asked, joined, rules_from}
 use Rattle.es_domain.specs.Effect.{effect}
-use Rattle.es_domain.specs.Overlay.{AnswersTold, AreBelow, IsBelow, IsChangedBelow, IsEffectBelow, LeavesTold, after_outcome, after_step, effect_asked, effect_by, found_of, overlaid}
+use Rattle.es_domain.specs.inner.Overlay.{AnswersTold, AreBelow, IsBelow, IsChangedBelow, IsEffectBelow, LeavesTold, after_outcome, after_step, effect_asked, effect_by, found_of, overlaid}
 use Rattle.es_domain.specs.Readings.{AreReadings, Readings, Reading, TellsOn, TellsOnTold, Told, folded, unreadable}
 use Rattle.es_domain.specs.declared.command.Command.{Command}
 use Rattle.es_domain.specs.declared.command.Decision.{Decision}
@@ -95,7 +95,6 @@ rule_fault sys at otherwise number rest (Some told) old left a wanted NoMemory i
 -- ---- all rules
 
 module _ (sys : System) (n : Notice) (at : ℤ) (number : ℕ) where
-
   -- what the first rule leaves, and what follows from it
   abbrev pub Follows : Option Told → List Rule → Rule → List Aggregate → List Aggregate → Result Step FindFault → Type 0
   Follows told rest r old new result =

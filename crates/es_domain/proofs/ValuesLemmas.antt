@@ -13,7 +13,7 @@ use Rattle.es_expr.specs.Outcome.{Outcome, is}
 use Rattle.es_expr.specs.Sound.{IsChecked, IsCheckedAs}
 use Rattle.es_domain.specs.declared.aggregate.TriggerFault.{TriggerFault}
 use Rattle.es_domain.specs.Fold.{with_value, values_of, fields_after, assigned}
-use Rattle.es_domain.specs.Evaluation.{AreChecked, CanBeChecked, AreAssignable, CanBeAssigned, MayFollow, behind}
+use Rattle.es_domain.specs.inner.Evaluation.{AreChecked, CanBeChecked, AreAssignable, CanBeAssigned, MayFollow, behind}
 
 with-is : (name : Name) (v : Value) (o : Option Record) → with_value name (is v) o ≡ behind ((name, v) ∷ []) o
 with-is name v None = refl

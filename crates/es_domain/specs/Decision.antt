@@ -16,7 +16,7 @@ use Rattle.es_model.specs.declared.expr.Expr.{Expr}
 use Rattle.es_model.specs.declared.value.Atom.TheVariants as atom
 use Rattle.es_model.specs.declared.value.Value.TheVariants as value
 use Rattle.es_expr.specs.Environments.{rule_env}
-use Rattle.es_expr.specs.Limits.{is_dot}
+use Rattle.es_model.specs.Names.{is_dot}
 use Rattle.es_expr.specs.Meaning.{den}
 use Rattle.es_expr.specs.Outcome.{Outcome, is}
 use Rattle.es_domain.specs.Effect.{effect, overflow_code}

@@ -2,7 +2,7 @@
 use Rattle.std.specs.Prelude.{ℤ, Bool, true, false, List, [], ◌∷◌, codes, if◌then◌else◌, Option, None, Some, Result, Ok, Err}
 use Rattle.std.specs.Option.{option_or}
 use Rattle.std.specs.Str.{bytes_eq}
-use Rattle.es_model.specs.Declaration.{class_named, command_in}
+use Rattle.es_model.specs.Declaration.{class_named, command_in, is_creating}
 use Rattle.es_model.specs.Values.{Name, Record}
 use Rattle.es_model.specs.declared.declaration.Class.{Class}
 use Rattle.es_model.specs.declared.declaration.CommandDef.{CommandDef}
@@ -13,7 +13,7 @@ use Rattle.es_model.specs.declared.value.Atom.TheVariants as atom
 use Rattle.es_model.specs.declared.value.Value.TheVariants as value
 use Rattle.es_expr.specs.Environments.{creating_env, command_env}
 use Rattle.es_expr.specs.Meaning.{den}
-use Rattle.es_expr.specs.Misfits.{topic_of, is_creating}
+use Rattle.es_model.specs.Names.{topic_of}
 use Rattle.es_expr.specs.Outcome.{Outcome, is, over}
 use Rattle.es_domain.specs.Fold.{begun, stepped, values_of, id_value, version_value, moment_value}
 use Rattle.es_domain.specs.Steps.{first_event, next_event, with_pending}
@@ -79,7 +79,7 @@ fired_with sys topic at a (Some fields) =
     let e = next_event a topic fields at in made (with_pending e (stepped sys a e))
 
 abbrev pub fired : System → Class → Command → ℤ → Trigger → Aggregate → Option Aggregate
-fired sys k c at t a = fired_with sys (topic_of k t.event) at a (values_of t.fields (seen c at (Some a)))
+fired sys k c at t a = fired_with sys (topic_of k.name t.event) at a (values_of t.fields (seen c at (Some a)))
 
 -- triggers one after the other, while no limit is passed
 abbrev pub all_fired : System → Class → Command → ℤ → List Trigger → Option Aggregate → Option Aggregate

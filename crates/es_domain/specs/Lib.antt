@@ -1,10 +1,7 @@
-pub mod Applied
-pub mod Asking
 pub mod Decision
 pub mod Effect
-pub mod Evaluation
-pub mod Firing
+pub mod Faults
 pub mod Fold
-pub mod Overlay
 pub mod Readings
 pub mod Steps
+pub mod inner

@@ -110,7 +110,7 @@ pub record FindHasCause {T : Type 0} (before now : ℕ) (result : Result T FindF
   pub later : before ≤ now
   pub failed : result ≡ Err Failed → Rose before now
 
--- a call leaves a reader's system and all else that it keeps as they were
-pub record IsSameReader {A Kept : Type 0} (system : A → System) (kept : A → Kept) (old new : A) : Type 0 where
-  pub system : system new ≡ system old
-  pub kept : kept new ≡ kept old
+-- a call leaves a reader's system `s` and what it keeps besides, `k`, as they were
+pub record IsSameReader {A Kept : Type 0} (s : A → System) (k : A → Kept) (old new : A) : Type 0 where
+  pub system : s new ≡ s old
+  pub kept : k new ≡ k old

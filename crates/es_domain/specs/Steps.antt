@@ -6,7 +6,6 @@ use Rattle.es_model.specs.declared.declaration.Class.{Class}
 use Rattle.es_model.specs.declared.declaration.EventClass.{EventClass}
 use Rattle.es_model.specs.declared.declaration.System.{System}
 use Rattle.es_model.specs.declared.domain_event.DomainEvent.{DomainEvent}
-use Rattle.es_domain.specs.Fold.{later_in}
 use Rattle.es_domain.specs.declared.aggregate.Aggregate.{Aggregate}
 use Rattle.es_domain.specs.declared.aggregate.ApplyFault.{ApplyFault}
 use Rattle.es_domain.specs.declared.aggregate.ApplyFault.TheVariants as apply
@@ -35,10 +34,6 @@ IsOfTopic (Some p) r = IsTrue (are_of_kinds r p.1.fields)
 abbrev pub IsOfEvent : Option EventClass → Record → Type 0
 IsOfEvent None r = ⊥
 IsOfEvent (Some k) r = IsTrue (are_of_kinds r k.fields)
-
--- an event is a later one of an aggregate's class
-abbrev pub IsLater : System → Aggregate → EventClass → Type 0
-IsLater sys a k = (topic : Name) × (later_in (class_named sys.classes a.class) topic ≡ Some k)
 
 -- the Created event of a class
 abbrev pub created_in : Option Class → Option EventClass

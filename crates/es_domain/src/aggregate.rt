@@ -63,7 +63,7 @@ impl From<NoMemory> for TriggerFault {
 
 impl From<EvalFault> for TriggerFault {
     ghost use Rattle.std.specs.Prelude.{◌≡◌};
-    ghost use Rattle.es_domain.specs.Evaluation.{fault_of};
+    ghost use Rattle.es_domain.specs.Faults.{fault_of};
 
     ghost from_gives = { λ fault e. e ≡ fault_of fault };
 
@@ -77,7 +77,7 @@ impl From<EvalFault> for TriggerFault {
 
 impl From<TriggerFault> for ApplyFault {
     ghost use Rattle.std.specs.Prelude.{◌≡◌};
-    ghost use Rattle.es_domain.specs.Applied.{apply_fault_of};
+    ghost use Rattle.es_domain.specs.Faults.{apply_fault_of};
 
     ghost from_gives = { λ fault e. e ≡ apply_fault_of fault };
 

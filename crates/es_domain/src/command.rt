@@ -1,4 +1,3 @@
-
 use es_model::{DomainEvents, Duplicate, Fields, NoMemory, Text};
 use uuid::Uuid;
 

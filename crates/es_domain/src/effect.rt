@@ -3,17 +3,17 @@ ghost use Rattle.std.specs.Prelude.{ℕ, ◌≡◌, ◌<◌, ◌≤◌, ◌^◌,
 ghost use Rattle.es_model.specs.Declaration.{class_named};
 ghost use Rattle.es_expr.specs.Checked.{IsCheckedSystem};
 ghost use Rattle.es_expr.specs.Meaning.{den};
-ghost use Rattle.es_expr.specs.Misfits.{topic_of, is_creating};
 ghost use Rattle.es_expr.specs.Sound.{IsTest};
 ghost use Rattle.es_domain.specs.Decision.{IsOfCommand};
 ghost use Rattle.es_domain.specs.Effect.{effect, effect_in, command_named, misplaced, seen, refusal_of, guarded, opened, fired, all_fired, triggered};
-ghost use Rattle.es_domain.specs.Firing.{AreTests, IsReady, IsCommandOf, IsKnown, IsEffect, IsNewEffect, CanOpen, CanFire, CanAllFire, CanRun, Makes, MakesOf};
+ghost use Rattle.es_domain.specs.inner.Firing.{AreTests, IsReady, IsCommandOf, IsKnown, IsEffect, IsNewEffect, CanOpen, CanFire, CanAllFire, CanRun, Makes, MakesOf};
 
 use crate::environment::{command_env, creating_env};
 use crate::fold::{id_value, moment_value, rises, version_value};
 use crate::values::values_of;
 use crate::{Aggregate, Command, TriggerFault};
 use es_expr::{EvalFault, test};
+use es_model::names::topic_of;
 use es_model::{
     Class, CommandDef, Duplicate, Fields, Guard, Moment, NoMemory, System, Text, Trigger,
 };
@@ -24,29 +24,6 @@ use std::alloc::Global;
 pub(crate) enum Effect {
     Changed(Aggregate),
     Refused(Text),
-}
-
-// The topic of an event of a class, by the event's name.
-fn topic_of(alloc: Global, class: &Class, event: &Text) -> Result<Text, NoMemory>
-    ensures { IfOk result (λ t. t ≡ topic_of class.now event.now) }
-{
-    let mut topic = String::from_str(alloc, class.name.as_str())?;
-    topic.push_str(".")?;
-    topic.push_str(event.as_str())?;
-    Text::from_str(alloc, topic.as_str())
-}
-
-// Whether a command creates: its first trigger is the Created event of its class.
-fn is_creating(alloc: Global, class: &Class, triggers: &[Trigger]) -> Result<bool, NoMemory>
-    ensures { IfOk result (λ creates. creates ≡ is_creating class.now triggers.now) }
-{
-    match triggers {
-        [] => Ok(false),
-        [trigger, ..] => {
-            let topic = topic_of(alloc, class, &trigger.event)?;
-            Ok(class.is_created(topic.as_str()))
-        }
-    }
 }
 
 // The refusal where there is an aggregate and there should be none, or the other way round.
@@ -193,7 +170,7 @@ fn fire(
     ensures ready { (more : ℕ) → IsReady sys.now class.now (more + 1) aggregate.old → OnOk result (IsReady sys.now class.now more aggregate.new) }
 {
     let alloc = aggregate.fields.allocator();
-    let topic = topic_of(alloc, class, &trigger.event)?;
+    let topic = topic_of(alloc, class.name.as_str(), trigger.event.as_str())?;
     let Some(event_class) = class.event(topic.as_str()) else {
         unreachable!()
     };
@@ -298,7 +275,7 @@ fn effect_in(
     ensures effect { IfOk result (λ e. e ≡ effect_in sys.now class.now definition.now command.now at found) }
     ensures ready { IfOk result (IsEffect sys.now class.now) }
 {
-    let creates = is_creating(alloc, class, definition.triggers.as_slice())?;
+    let creates = class.is_creating(alloc, definition.triggers.as_slice())?;
     if let Some(code) = misplaced(alloc, creates, class, &found)? {
         return Ok(Effect::Refused(code));
     }

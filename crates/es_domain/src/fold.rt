@@ -5,9 +5,10 @@ ghost use Rattle.es_model.specs.Declaration.{class_named, event_named};
 ghost use Rattle.es_model.specs.Rising.{IsRising};
 ghost use Rattle.es_model.specs.Values.{are_of_kinds};
 ghost use Rattle.es_expr.specs.Checked.{IsCheckedSystem};
-ghost use Rattle.es_domain.specs.Evaluation.{AreChecked, GivesValues};
+ghost use Rattle.es_domain.specs.inner.Evaluation.{AreChecked, GivesValues};
+ghost use Rattle.es_domain.specs.inner.Firing.{IsLater};
 ghost use Rattle.es_domain.specs.Fold.{created_with, fields_at_first, fields_then, first_env, later_in, begun_by, id_value, moment_value, version_value};
-ghost use Rattle.es_domain.specs.Steps.{Triggers, Applies, HasItsFields, IsOfClass, IsLater};
+ghost use Rattle.es_domain.specs.Steps.{Triggers, Applies, HasItsFields, IsOfClass};
 
 use crate::environment::{assign_env, created_env};
 use crate::values::{fields_after, values_of};

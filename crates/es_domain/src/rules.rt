@@ -3,10 +3,10 @@ ghost use Rattle.std.specs.Prelude.{ℕ, ◌≡◌, ◌<◌, ◌≤◌, ◌^◌,
 ghost use Rattle.std.specs.Option.{option_copied};
 ghost use Rattle.es_model.specs.declared.declaration.System.{System};
 ghost use Rattle.es_expr.specs.Checked.{IsCheckedSystem};
-ghost use Rattle.es_domain.specs.Asking.{MayBeAsked, AllMayBeAsked, IsAsked};
+ghost use Rattle.es_domain.specs.inner.Asking.{MayBeAsked, AllMayBeAsked, IsAsked};
 ghost use Rattle.es_domain.specs.Decision.{Decided, DecidesTold, AreNewEvents, IsNewEvent, IsOfCommand, after_asked, after_effect, asked, joined, notice, rules_from};
 ghost use Rattle.es_domain.specs.Effect.{command_named};
-ghost use Rattle.es_domain.specs.Overlay.{AnswersTold, LeavesTold, AreBelow, IsBelow, IsEffectBelow, IsNewStep, after_some, after_step, effect_asked, effect_by, found_of, latest, overlaid};
+ghost use Rattle.es_domain.specs.inner.Overlay.{AnswersTold, LeavesTold, AreBelow, IsBelow, IsEffectBelow, IsNewStep, after_some, after_step, effect_asked, effect_by, found_of, latest, overlaid};
 ghost use Rattle.es_domain.specs.Readings.{Readings, TellsOnTold, FindHasCause, IsSameReader};
 ghost use Rattle.es_domain.specs.declared.effect.Effect.TheVariants.{Refused};
 

@@ -7,7 +7,7 @@ ghost use Rattle.es_model.specs.declared.expr.Expr.{Expr};
 ghost use Rattle.es_expr.specs.Sound.{IsChecked, IsCheckedAs};
 ghost use Rattle.es_expr.specs.Meaning.{den};
 ghost use Rattle.es_domain.specs.Fold.{values_of, fields_after, assigned};
-ghost use Rattle.es_domain.specs.Evaluation.{AreChecked, CanBeChecked, AreAssignable, CanBeAssigned, MayFollow, behind, GivesValue, GivesValues, AddsValues};
+ghost use Rattle.es_domain.specs.inner.Evaluation.{AreChecked, CanBeChecked, AreAssignable, CanBeAssigned, MayFollow, behind, GivesValue, GivesValues, AddsValues};
 
 use crate::TriggerFault;
 use es_expr::eval;
@@ -75,7 +75,7 @@ fn value_after(
     ensures value { GivesValue (assigned (item_of assigns.now name.now) before.now env.now) result }
     ensures kind { (k : Kind) → fits before.now k ≡ true → ((e : Expr) → item_of assigns.now name.now ≡ Some e → IsCheckedAs k e env.now) → IfOk result (λ v. fits v k ≡ true) }
 {
-    match assigns.get(name) {
+    match assigns.get(name.as_str()) {
         Some(expr) => value_of(alloc, expr, env),
         None => Ok(before.copy()?),
     }

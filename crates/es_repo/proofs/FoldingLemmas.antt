@@ -1,25 +1,21 @@
 -- What events make, one after the other, is what is read of their notifications.
-use Rattle.std.proofs.Common.{◌≡◌, ◌∙◌, ◌+◌, ◌<◌, ◌-◌, ◌^◌, ◌==◌, ℕ, Bool, true, false, List, [], ◌∷◌, ◌++◌, map, Option, None, Some, Result, Ok, Err, length, take, drop, get_or, drop-cons, add-one, IfSome, IfOk, refl, sym, ap, subst, arith, if◌then◌else◌}
-use Rattle.std.specs.Str.{bytes_eq}
-use Rattle.std.proofs.lemmas.Slice.Eq.{bytes_eq-Decides}
+use Rattle.std.proofs.Common.{◌≡◌, ◌∙◌, ◌+◌, ◌<◌, ◌-◌, ◌^◌, ℕ, false, List, [], ◌∷◌, ◌++◌, map, Option, None, Some, Result, Ok, IfSome, refl, sym, ap, subst}
 use Rattle.es_model.specs.History.{log, own, IsFormed}
-use Rattle.es_model.specs.Values.{Name, Id, Record}
-use Rattle.es_model.specs.declared.declaration.Class.{Class}
-use Rattle.es_model.specs.declared.declaration.EventClass.{EventClass}
+use Rattle.es_model.specs.Values.{Id}
 use Rattle.es_model.specs.declared.declaration.System.{System}
 use Rattle.es_model.specs.declared.domain_event.DomainEvent.{DomainEvent}
 use Rattle.es_model.specs.declared.event.Notification.{Notification}
 use Rattle.es_model.specs.declared.event.Recording.{Recording}
 use Rattle.es_model.specs.declared.event.StoredEvent.{StoredEvent}
 use Rattle.es_mapper.specs.Mapped.{event_of}
-use Rattle.es_domain.proofs.NextLemmas.{IsMade, new_events}
-use Rattle.es_domain.specs.Overlay.{IsBelow}
-use Rattle.es_domain.specs.Readings.{Reading, folded, unreadable}
+use Rattle.es_domain.proofs.NextLemmas.{new_events}
+use Rattle.es_domain.specs.inner.Overlay.{IsBelow}
+use Rattle.es_domain.specs.Readings.{folded, unreadable}
 use Rattle.es_domain.specs.Steps.{HasItsFields}
 use Rattle.es_domain.specs.declared.aggregate.Aggregate.{Aggregate}
 use Rattle.es_domain.specs.declared.find.FindFault.{FindFault}
 use Rattle.es_recorder.specs.Selections.{notification_of, select_events}
-use Rattle.es_repo.specs.Reader.{after_event, folded_from, Reads}
+use Rattle.es_repo.specs.inner.Reader.{after_event, folded_from, Reads}
 use Rattle.es_repo.specs.Readings.{notifications_of, advanced_by, after_entry, read_from, readings_of}
 use Rattle.es_repo.specs.declared.folding.Folded.{Folded}
 use Rattle.es_repo.specs.declared.folding.Folded.TheVariants.{Whole, Stuck}

@@ -1,5 +1,5 @@
 -- What is decided comes next over the log.
-use Rattle.std.proofs.Common.{◌≡◌, ◌∙◌, ◌+◌, ◌==◌, ℕ, ℤ, Bool, true, false, List, [], ◌∷◌, ◌++◌, map, Option, None, Some, Result, Ok, Err, refl, sym, ap, subst, arith, if◌then◌else◌}
+use Rattle.std.proofs.Common.{◌≡◌, ◌∙◌, ◌+◌, ℕ, ℤ, Bool, true, false, List, [], ◌∷◌, ◌++◌, map, None, Some, Ok, Err, refl, sym, ap, if◌then◌else◌}
 use Rattle.std.specs.Str.{bytes_eq}
 use Rattle.std.proofs.lemmas.Bool.Decides.{Decides-eqb}
 use Rattle.es_model.specs.History.{latest}
@@ -14,7 +14,6 @@ use Rattle.es_domain.specs.declared.command.Decision.TheVariants as decision
 use Rattle.es_domain.specs.declared.find.FindFault.TheVariants.{Unreadable, Failed, NoMemory}
 use Rattle.es_domain.proofs.NextLemmas.{raised, AreNext, IsNext, command-next, policy-next}
 use Rattle.es_recorder.specs.Insert.{first_conflict}
-use Rattle.es_recorder.specs.declared.recorder.InsertFault.{InsertFault}
 use Rattle.es_recorder.specs.declared.recorder.InsertFault.TheVariants.{Conflict}
 use Rattle.es_repo.specs.Readings.{readings_of}
 use Rattle.es_repo.specs.Verdicts.{verdict_of, FollowsIn}

@@ -1,8 +1,8 @@
 -- What is judged is what is decided over the history.
-use Rattle.std.proofs.Common.{◌≡◌, ◌<◌, ◌^◌, ℕ, ℤ, List, [], ◌∷◌, map, Option, None, Some, Result, Ok, Err, IfOk, IsErrOf, refl, sym, ap, subst}
+use Rattle.std.proofs.Common.{◌≡◌, ◌<◌, ◌^◌, ℕ, List, [], ◌∷◌, map, Result, Ok, Err, IfOk, sym, ap, subst}
 use Rattle.std.specs.Prelude.{All}
 use Rattle.std.proofs.lemmas.List.Elements.{All-nil, All-cons, All-head, All-tail}
-use Rattle.es_model.specs.Causes.{CallHasCause, Rose}
+use Rattle.es_model.specs.Causes.{CallHasCause}
 use Rattle.es_model.specs.declared.domain_event.DomainEvent.{DomainEvent}
 use Rattle.es_model.specs.declared.declaration.System.{System}
 use Rattle.es_model.specs.declared.event.StoredEvent.{StoredEvent}
@@ -16,7 +16,6 @@ use Rattle.es_domain.specs.declared.command.Decision.TheVariants as decision
 use Rattle.es_domain.specs.declared.find.FindFault.{FindFault}
 use Rattle.es_domain.specs.declared.find.FindFault.TheVariants as find
 use Rattle.es_repo.specs.Verdicts.{IsSmallVerdict}
-use Rattle.es_repo.specs.declared.verdict.Verdict.{Verdict}
 use Rattle.es_repo.specs.declared.verdict.Verdict.TheVariants.{Events}
 
 small-stored : (sys : System) (es : List DomainEvent) → All (IsNewEvent sys) es → All (λ e. e.originator_version < 2 ^ 63) (map (stored sys) es)

@@ -1,6 +1,5 @@
 -- What is read of a log is the one reading of its notifications.
-use Rattle.std.proofs.Common.{◌≡◌, ◌∙◌, ◌+◌, ℕ, Bool, true, false, List, [], ◌∷◌, ◌++◌, Option, None, Some, Result, Ok, Err, refl, sym, ap, subst, append-nil, append_assoc}
-use Rattle.es_model.specs.Values.{Id}
+use Rattle.std.proofs.Common.{◌≡◌, ◌∙◌, ◌+◌, ℕ, List, [], ◌∷◌, ◌++◌, Option, None, Some, Result, Ok, Err, refl, sym, ap, subst, append-nil, append_assoc}
 use Rattle.es_model.specs.declared.declaration.System.{System}
 use Rattle.es_model.specs.declared.domain_event.DomainEvent.{DomainEvent}
 use Rattle.es_model.specs.declared.event.Notification.{Notification}
@@ -8,7 +7,7 @@ use Rattle.es_mapper.specs.Mapping.{IsEvent}
 use Rattle.es_mapper.specs.Mapped.{event_of}
 use Rattle.es_mapper.proofs.MappedLemmas.{event-of, is-event}
 use Rattle.es_domain.specs.Effect.{made}
-use Rattle.es_domain.specs.Fold.{advanced, and_then, fold_from, fold}
+use Rattle.es_domain.specs.Fold.{advanced, and_then, fold_from}
 use Rattle.es_domain.specs.Readings.{AreEvents, FoldsTo, IsFirstUnreadable, Reading, folded, unreadable, IsReading}
 use Rattle.es_domain.specs.declared.aggregate.Aggregate.{Aggregate}
 use Rattle.es_domain.specs.declared.aggregate.ApplyFault.{ApplyFault}

@@ -2,7 +2,7 @@
 use Rattle.std.proofs.Common.{◌≡◌, ◌∙◌, ◌+◌, ℕ, Bool, true, false, List, [], ◌∷◌, map, Option, None, Some, length, refl, sym, ap, subst, arith}
 use Rattle.std.specs.Str.{bytes_eq}
 use Rattle.std.proofs.lemmas.Slice.Eq.{bytes_eq-Decides}
-use Rattle.es_model.specs.History.{own, latest}
+use Rattle.es_model.specs.History.{latest}
 use Rattle.es_model.specs.Values.{Id}
 use Rattle.es_model.specs.declared.declaration.System.{System}
 use Rattle.es_model.specs.declared.domain_event.DomainEvent.{DomainEvent}
@@ -11,7 +11,7 @@ use Rattle.es_model.specs.declared.event.StoredEvent.{StoredEvent}
 use Rattle.es_mapper.specs.Mapped.{event_of}
 use Rattle.es_mapper.proofs.MappedLemmas.{is-event}
 use Rattle.es_domain.specs.Fold.{advanced}
-use Rattle.es_domain.specs.Readings.{Reading, folded, unreadable}
+use Rattle.es_domain.specs.Readings.{folded}
 use Rattle.es_domain.specs.declared.aggregate.Aggregate.{Aggregate}
 use Rattle.es_domain.proofs.NextLemmas.{IsMade, next_version, new_events, made-by, made-is, StandsAs, StandsAt}
 use Rattle.es_repo.specs.Readings.{notifications_of, advanced_by, after_entry, read_from, readings_of}

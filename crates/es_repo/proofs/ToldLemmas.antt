@@ -1,23 +1,20 @@
 -- What a reader over a recorder tells, and that it answers by it.
-use Rattle.std.proofs.Common.{◌≡◌, ◌∙◌, ℕ, ℤ, Bool, true, false, List, [], ◌∷◌, ◌++◌, map, Option, None, Some, Result, Ok, Err, IfSome, IfOk, IsErrOf, refl, sym, ap, subst, if◌then◌else◌}
+use Rattle.std.proofs.Common.{◌≡◌, ◌∙◌, Bool, true, false, List, [], ◌∷◌, ◌++◌, Option, None, Some, Result, Ok, Err, IfSome, refl, sym, ap, subst, if◌then◌else◌}
 use Rattle.std.specs.Str.{bytes_eq}
 use Rattle.std.proofs.lemmas.Slice.Eq.{bytes_eq-Decides}
-use Rattle.es_model.specs.Causes.{CallHasCause}
 use Rattle.es_model.specs.History.{log, IsFormed}
 use Rattle.es_model.specs.Rising.{item_of}
 use Rattle.es_model.specs.Values.{Id}
 use Rattle.es_model.specs.declared.declaration.System.{System}
 use Rattle.es_model.specs.declared.event.Notification.{Notification}
 use Rattle.es_model.specs.declared.event.Recording.{Recording}
-use Rattle.es_model.specs.declared.memory.CallFault.{CallFault}
-use Rattle.es_model.specs.declared.memory.CallFault.TheVariants as call
 use Rattle.es_domain.specs.Decision.{Decided, Decides, DecidesTold}
-use Rattle.es_domain.specs.Readings.{Readings, Reading, folded, unreadable, IsReading, AreReadings, Told, TellsOnce, AnswersBy, Finds, FindsTold, FindHasCause}
+use Rattle.es_domain.specs.Readings.{Readings, Reading, folded, unreadable, IsReading, AreReadings, Told, TellsOnce, AnswersBy, Finds, FindsTold}
 use Rattle.es_domain.specs.declared.aggregate.Aggregate.{Aggregate}
 use Rattle.es_domain.specs.declared.find.FindFault.{FindFault}
 use Rattle.es_domain.specs.declared.find.FindFault.TheVariants.{Unreadable, Failed, NoMemory}
 use Rattle.es_domain.proofs.ToldLemmas.{item-cons}
-use Rattle.es_repo.specs.Reader.{told_by, told_of, is_among, noted, Notes, Reads}
+use Rattle.es_repo.specs.inner.Reader.{told_by, told_of, is_among, noted, Notes, Reads}
 use Rattle.es_repo.specs.Readings.{notifications_of, readings_of}
 use Rattle.es_repo.proofs.LogLemmas.{all-own}
 use Rattle.es_repo.proofs.ReadingLemmas.{reading-is, only-reading}

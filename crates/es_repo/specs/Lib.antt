@@ -1,3 +1,4 @@
-pub mod Reader
 pub mod Readings
+pub mod Same
 pub mod Verdicts
+pub mod inner

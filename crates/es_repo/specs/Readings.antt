@@ -1,5 +1,5 @@
 -- What is read of the aggregates of a log, as functions.
-use Rattle.std.specs.Prelude.{ℕ, Bool, List, [], ◌∷◌, filter, Option, None, Some}
+use Rattle.std.specs.Prelude.{ℕ, List, [], ◌∷◌, filter, Option, None, Some}
 use Rattle.std.specs.Str.{bytes_eq}
 use Rattle.es_model.specs.Values.{Id}
 use Rattle.es_model.specs.declared.declaration.System.{System}

@@ -1,5 +1,5 @@
 -- What an application decides over its history.
-use Rattle.std.specs.Prelude.{ℕ, ℤ, ◌≡◌, ◌<◌, ◌^◌, All, List, [], map, Option, None, Some, Result, Ok, Err}
+use Rattle.std.specs.Prelude.{ℤ, ◌≡◌, ◌<◌, ◌^◌, All, List, map, None, Ok, Err}
 use Rattle.es_model.specs.History.{log}
 use Rattle.es_model.specs.Values.{Name}
 use Rattle.es_model.specs.declared.declaration.System.{System}

@@ -3,9 +3,9 @@ ghost use Rattle.es_expr.specs.Checked.{IsCheckedSystem};
 ghost use Rattle.es_mapper.specs.Mapped.{event_of};
 ghost use Rattle.es_domain.specs.Effect.{made};
 ghost use Rattle.es_domain.specs.Fold.{advanced};
-ghost use Rattle.es_domain.specs.Overlay.{IsBelow};
+ghost use Rattle.es_domain.specs.inner.Overlay.{IsBelow};
 ghost use Rattle.es_domain.specs.Steps.{HasItsFields, FitsItsTopic};
-ghost use Rattle.es_repo.specs.Reader.{folded_from, IsWhole};
+ghost use Rattle.es_repo.specs.inner.Reader.{folded_from, IsWhole};
 ghost use Rattle.es_repo.specs.Readings.{advanced_by};
 
 use es_domain::{Aggregate, ApplyFault};

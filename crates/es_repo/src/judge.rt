@@ -8,6 +8,7 @@ ghost use Rattle.es_domain.specs.Decision.{AreNewEvents, Decides, IsNotice, IsOf
 ghost use Rattle.es_domain.specs.Effect.{command_named};
 ghost use Rattle.es_domain.specs.Readings.{FindHasCause};
 ghost use Rattle.es_repo.specs.Readings.{readings_of};
+ghost use Rattle.es_repo.specs.Same.{IsSameRecorder};
 ghost use Rattle.es_repo.specs.Verdicts.{command_verdict, policy_verdict, FollowsIn, IsSmallVerdict};
 
 use crate::Verdict;
@@ -30,9 +31,7 @@ fn command_decided<R: ProcessRecorder>(
     requires command { IsOfCommand (command_named sys.now command.now.class command.now.name) command.now.args }
     ensures decision { (h : List Recording) → R.history recorder.old ≡ Some h → Decides (command_decision sys.now command.now at (readings_of sys.now (log h))) result }
     ensures events { IfOk result (AreNewEvents sys.now) }
-    ensures same_history { R.history recorder.new ≡ R.history recorder.old }
-    ensures same_snapshots { R.snapshots recorder.new ≡ R.snapshots recorder.old }
-    ensures same_capacity { R.capacity recorder.new ≡ R.capacity recorder.old }
+    ensures same { IsSameRecorder R.history R.snapshots R.capacity recorder.old recorder.new }
     ensures cause { FindHasCause (R.faults recorder.old) (R.faults recorder.new) result }
 {
     let mut reader = Reader {
@@ -62,9 +61,7 @@ fn policy_decided<R: ProcessRecorder>(
     requires notice { IsNotice sys.now (notice leader.now id event.now) }
     ensures decision { (h : List Recording) → R.history recorder.old ≡ Some h → Decides (policy_decision sys.now app.now (notice leader.now id event.now) at (readings_of sys.now (log h))) result }
     ensures events { IfOk result (AreNewEvents sys.now) }
-    ensures same_history { R.history recorder.new ≡ R.history recorder.old }
-    ensures same_snapshots { R.snapshots recorder.new ≡ R.snapshots recorder.old }
-    ensures same_capacity { R.capacity recorder.new ≡ R.capacity recorder.old }
+    ensures same { IsSameRecorder R.history R.snapshots R.capacity recorder.old recorder.new }
     ensures cause { FindHasCause (R.faults recorder.old) (R.faults recorder.new) result }
 {
     let mut reader = Reader {
@@ -91,9 +88,7 @@ pub fn judge_command<R: ProcessRecorder>(
     ensures verdict { (h : List Recording) → R.history recorder.old ≡ Some h → IfOk result (λ v. v ≡ command_verdict sys.now command.now at h) }
     ensures small { IfOk result IsSmallVerdict }
     ensures follows { (h : List Recording) → R.history recorder.old ≡ Some h → IfOk result (FollowsIn (log h)) }
-    ensures same_history { R.history recorder.new ≡ R.history recorder.old }
-    ensures same_snapshots { R.snapshots recorder.new ≡ R.snapshots recorder.old }
-    ensures same_capacity { R.capacity recorder.new ≡ R.capacity recorder.old }
+    ensures same { IsSameRecorder R.history R.snapshots R.capacity recorder.old recorder.new }
     ensures cause { CallHasCause (R.faults recorder.old) (R.faults recorder.new) result }
 {
     let decided = command_decided(alloc, sys, recorder, command, at);
@@ -118,9 +113,7 @@ pub fn judge_policy<R: ProcessRecorder>(
     ensures verdict { (h : List Recording) → R.history recorder.old ≡ Some h → IfOk result (λ v. v ≡ policy_verdict sys.now app.now (notice leader.now id event.now) at h) }
     ensures small { IfOk result IsSmallVerdict }
     ensures follows { (h : List Recording) → R.history recorder.old ≡ Some h → IfOk result (FollowsIn (log h)) }
-    ensures same_history { R.history recorder.new ≡ R.history recorder.old }
-    ensures same_snapshots { R.snapshots recorder.new ≡ R.snapshots recorder.old }
-    ensures same_capacity { R.capacity recorder.new ≡ R.capacity recorder.old }
+    ensures same { IsSameRecorder R.history R.snapshots R.capacity recorder.old recorder.new }
     ensures cause { CallHasCause (R.faults recorder.old) (R.faults recorder.new) result }
 {
     let decided = policy_decided(alloc, sys, app, recorder, leader, id, event, at);

@@ -1,5 +1,4 @@
-ghost use Rattle.std.specs.Prelude.{◌≡◌, ℕ, IfOk, IfSome, Some, None, Ok, Err, OnOk, OnErr, All};
-ghost use Rattle.es_model.specs.Causes.{CallHasCause};
+ghost use Rattle.std.specs.Prelude.{◌≡◌, ℕ, IfOk, IfSome, Some, None, Ok, Err, OnOk, OnErr};
 ghost use Rattle.es_model.specs.History.{log, own};
 ghost use Rattle.es_model.specs.declared.declaration.System.{System};
 ghost use Rattle.es_expr.specs.Checked.{IsCheckedSystem};
@@ -7,7 +6,8 @@ ghost use Rattle.es_domain.specs.Readings.{unreadable, IsFound, FindHasCause};
 ghost use Rattle.es_domain.specs.declared.find.FindFault.TheVariants as find_faults;
 ghost use Rattle.es_recorder.specs.Selections.{notification_of};
 ghost use Rattle.es_repo.specs.Readings.{readings_of};
-ghost use Rattle.es_repo.specs.Reader.{folded_from, is_among, IsWhole, noted, Notes, Reads};
+ghost use Rattle.es_repo.specs.Same.{IsSameRecorder};
+ghost use Rattle.es_repo.specs.inner.Reader.{folded_from, is_among, IsWhole, noted, Notes, Reads};
 
 use crate::folding::{Folded, fold_events};
 use es_domain::{Aggregate, Aggregates, FindFault};
@@ -49,9 +49,7 @@ fn stuck_at<R: ApplicationRecorder>(
 ) -> Result<Option<Aggregate>, FindFault>
     ensures reading { IfSome (R.history recorder.old) (λ h. (n : ℕ) → notification_of (log h) id version ≡ Some n → Reads (unreadable n) result) }
     ensures none { IfOk result (λ _. ⊥) }
-    ensures same_history { R.history recorder.new ≡ R.history recorder.old }
-    ensures same_snapshots { R.snapshots recorder.new ≡ R.snapshots recorder.old }
-    ensures same_capacity { R.capacity recorder.new ≡ R.capacity recorder.old }
+    ensures same { IsSameRecorder R.history R.snapshots R.capacity recorder.old recorder.new }
     ensures cause { FindHasCause (R.faults recorder.old) (R.faults recorder.new) result }
 {
     match recorder.notification_of(id, version) {
@@ -88,9 +86,7 @@ fn answer<R: ApplicationRecorder>(
 ) -> Result<Option<Aggregate>, FindFault>
     ensures reading { (sys : System) → IfSome (R.history recorder.old) (λ h. folded ≡ folded_from sys None (own (log h) id) → Reads (readings_of sys (log h) id) result) }
     ensures found { (sys : System) → IsWhole sys folded → IfOk result (λ found. IfSome found (IsFound sys id)) }
-    ensures same_history { R.history recorder.new ≡ R.history recorder.old }
-    ensures same_snapshots { R.snapshots recorder.new ≡ R.snapshots recorder.old }
-    ensures same_capacity { R.capacity recorder.new ≡ R.capacity recorder.old }
+    ensures same { IsSameRecorder R.history R.snapshots R.capacity recorder.old recorder.new }
     ensures cause { FindHasCause (R.faults recorder.old) (R.faults recorder.new) result }
 {
     match folded {
@@ -109,9 +105,7 @@ fn read<R: ApplicationRecorder>(
     requires checked { IsCheckedSystem sys.now }
     ensures reading { IfSome (R.history recorder.old) (λ h. Reads (readings_of sys.now (log h) id) result) }
     ensures found { IfOk result (λ found. IfSome found (IsFound sys.now id)) }
-    ensures same_history { R.history recorder.new ≡ R.history recorder.old }
-    ensures same_snapshots { R.snapshots recorder.new ≡ R.snapshots recorder.old }
-    ensures same_capacity { R.capacity recorder.new ≡ R.capacity recorder.old }
+    ensures same { IsSameRecorder R.history R.snapshots R.capacity recorder.old recorder.new }
     ensures cause { FindHasCause (R.faults recorder.old) (R.faults recorder.new) result }
 {
     let events = match recorder.select_events(id, None, None, false, None) {
@@ -167,7 +161,7 @@ fn with_note(
 }
 
 impl<'a, R: ApplicationRecorder> Aggregates for Reader<'a, R> {
-    ghost use Rattle.es_repo.specs.Reader.{Kept, kept_of, told_of};
+    ghost use Rattle.es_repo.specs.inner.Reader.{Kept, kept_of, told_of};
 
     ghost system = { λ r. r.sys.now };
 

@@ -1,7 +1,7 @@
-ghost use Rattle.std.specs.Prelude.{◌≡◌, IfOk, map, All, Err};
+ghost use Rattle.std.specs.Prelude.{◌≡◌, IfOk, map, Err};
 ghost use Rattle.es_model.specs.declared.memory.CallFault.TheVariants as call_faults;
 ghost use Rattle.es_mapper.specs.Mapping.{stored};
-ghost use Rattle.es_domain.specs.Decision.{Decided, Decides, AreNewEvents, IsNewEvent};
+ghost use Rattle.es_domain.specs.Decision.{Decided, Decides, AreNewEvents};
 ghost use Rattle.es_domain.specs.declared.find.FindFault.TheVariants as find_faults;
 ghost use Rattle.es_repo.specs.Verdicts.{verdict_of, IsSmallVerdict};
 

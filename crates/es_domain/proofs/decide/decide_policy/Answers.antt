@@ -1,6 +1,6 @@
 use Rattle.std.proofs.Common.{◌≡◌, ◌≤◌, ◌+◌, Some, length, subst, sym, arith, rules}
 use Rattle.es_model.specs.Declaration.{app_named}
-use Rattle.es_domain.specs.Asking.{AllMayBeAsked}
+use Rattle.es_domain.specs.inner.Asking.{AllMayBeAsked}
 use Rattle.es_domain.specs.Decision.{notice}
 use Rattle.es_domain.proofs.AskingLemmas.{all_may_be_asked, few_rules}
 use Rattle.es_domain.proofs.decide.decide_policy.Goals as goal

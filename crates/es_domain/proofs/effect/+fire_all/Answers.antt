@@ -1,6 +1,6 @@
 use Rattle.std.proofs.Common.{rules, Err, subst}
 use Rattle.es_domain.specs.Effect.{fired}
-use Rattle.es_domain.specs.Firing.{MakesOf}
+use Rattle.es_domain.specs.inner.Firing.{MakesOf}
 use Rattle.es_domain.proofs.FiringLemmas.{fired_err, rest_ready, rest_fires}
 use Rattle.es_domain.proofs.effect.+fire_all.Goals as goal
 

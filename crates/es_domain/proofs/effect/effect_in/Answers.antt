@@ -1,7 +1,7 @@
+use Rattle.es_model.specs.Declaration.{is_creating}
 use Rattle.std.proofs.Common.{◌≡◌, ◌≤◌, Bool, None, length, sym, subst, ap, ◌∙◌}
-use Rattle.es_expr.specs.Misfits.{is_creating}
 use Rattle.es_domain.specs.Effect.{misplaced}
-use Rattle.es_domain.specs.Firing.{AreTests, CanRun}
+use Rattle.es_domain.specs.inner.Firing.{AreTests, CanRun}
 use Rattle.es_domain.proofs.FiringLemmas.{placed_ready}
 use Rattle.es_domain.proofs.FoldLemmas.{created_class}
 use Rattle.es_domain.proofs.Projections.{guards_tested, triggers_few, triggers_run}

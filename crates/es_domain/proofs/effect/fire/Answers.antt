@@ -2,7 +2,7 @@ use Rattle.std.proofs.Common.{◌≡◌, ◌∙◌, IsTrue, Some, sym, subst, ap
 use Rattle.es_model.specs.Declaration.{event_in}
 use Rattle.es_model.specs.Rising.{IsRising}
 use Rattle.es_model.specs.Values.{are_of_kinds}
-use Rattle.es_domain.specs.Evaluation.{AreChecked}
+use Rattle.es_domain.specs.inner.Evaluation.{AreChecked}
 use Rattle.es_domain.specs.Fold.{later_in}
 use Rattle.es_domain.proofs.FiringLemmas.{fired_ready}
 use Rattle.es_domain.proofs.FoldLemmas.{one_event, later_of}

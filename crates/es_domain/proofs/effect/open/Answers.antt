@@ -1,6 +1,6 @@
 use Rattle.std.proofs.Common.{IsTrue, sym, subst}
 use Rattle.es_model.specs.Values.{are_of_kinds}
-use Rattle.es_domain.specs.Evaluation.{AreChecked}
+use Rattle.es_domain.specs.inner.Evaluation.{AreChecked}
 use Rattle.es_domain.specs.Steps.{IsOfEvent, created_in}
 use Rattle.es_domain.proofs.FiringLemmas.{opened_ready}
 use Rattle.es_domain.proofs.effect.open.Goals as goal

@@ -1,7 +1,7 @@
 use Rattle.std.proofs.Common.{◌≡◌, ◌∙◌, refl, sym, subst}
 use Rattle.es_model.specs.Declaration.{class_named}
 use Rattle.es_expr.specs.Environments.{assign_env}
-use Rattle.es_domain.specs.Evaluation.{CanBeAssigned}
+use Rattle.es_domain.specs.inner.Evaluation.{CanBeAssigned}
 use Rattle.es_domain.specs.Fold.{before_env}
 use Rattle.es_domain.proofs.FoldLemmas.{assignable, kinds_then}
 use Rattle.es_domain.proofs.fold.fields_then.Goals as goal

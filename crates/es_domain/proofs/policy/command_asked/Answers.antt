@@ -4,8 +4,8 @@ use Rattle.es_model.specs.Declaration.{class_named}
 use Rattle.es_model.specs.Rising.{IsRising}
 use Rattle.es_model.specs.Values.{are_of_kinds}
 use Rattle.es_model.specs.declared.declaration.CommandDef.{CommandDef}
-use Rattle.es_expr.specs.Limits.{is_dot}
-use Rattle.es_domain.specs.Asking.{definition_in}
+use Rattle.es_model.specs.Names.{is_dot}
+use Rattle.es_domain.specs.inner.Asking.{definition_in}
 use Rattle.es_domain.specs.Decision.{IsOfCommand}
 use Rattle.es_domain.specs.Effect.{command_named}
 use Rattle.es_domain.proofs.AskingLemmas.{of_command, same_definition}

@@ -1,6 +1,6 @@
 use Rattle.std.proofs.Common.{rules, ◌≡◌, ◌≤◌, ◌^◌, ◌+◌, ◌-◌, ◌*◌, ◌∙◌, length, take, drop, Ok, Err, subst, arith}
 use Rattle.es_domain.specs.Decision.{notice, rules_from}
-use Rattle.es_domain.specs.Overlay.{AreBelow}
+use Rattle.es_domain.specs.inner.Overlay.{AreBelow}
 use Rattle.es_domain.proofs.OverlayLemmas.{are_below_more, told_then}
 use Rattle.es_domain.proofs.RunLemmas.{Follows, rest_fails, rest_few, rest_may, rule_fails, rule_goes, rule_stops}
 use Rattle.es_domain.proofs.rules.+run_rules.Goals as goal

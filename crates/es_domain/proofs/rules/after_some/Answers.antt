@@ -1,5 +1,5 @@
 use Rattle.std.proofs.Common.{subst}
-use Rattle.es_domain.specs.Overlay.{IsEffectBelow}
+use Rattle.es_domain.specs.inner.Overlay.{IsEffectBelow}
 use Rattle.es_domain.proofs.rules.after_some.Goals as goal
 
 pub returns-in-Some-clause-below : goal.returns-in-Some-clause-below

@@ -1,4 +1,4 @@
-use Rattle.es_domain.specs.Overlay.{overlaid}
+use Rattle.es_domain.specs.inner.Overlay.{overlaid}
 use Rattle.es_domain.proofs.GrowthLemmas.{effect_below}
 use Rattle.es_domain.proofs.OverlayLemmas.{found_below, found_known}
 use Rattle.es_domain.proofs.RunLemmas.{effect_fault, effect_told}

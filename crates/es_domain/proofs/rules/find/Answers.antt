@@ -1,5 +1,5 @@
 use Rattle.std.proofs.Common.{◌≡◌, Some, None, rules}
-use Rattle.es_domain.specs.Overlay.{latest}
+use Rattle.es_domain.specs.inner.Overlay.{latest}
 use Rattle.es_domain.proofs.OverlayLemmas.{find_told, kept_below, kept_told}
 use Rattle.es_domain.proofs.ToldLemmas.{found_tells}
 use Rattle.es_domain.proofs.rules.find.Goals as goal

@@ -1,5 +1,5 @@
 use Rattle.std.proofs.Common.{◌+◌, ◌-◌, ◌^◌, subst, sym, arith}
-use Rattle.es_domain.specs.Overlay.{AreBelow}
+use Rattle.es_domain.specs.inner.Overlay.{AreBelow}
 use Rattle.es_domain.proofs.OverlayLemmas.{are_below_more}
 use Rattle.es_domain.proofs.RunLemmas.{rule_fault}
 use Rattle.es_domain.proofs.rules.run_rule.Goals as goal

@@ -1,5 +1,5 @@
 use Rattle.std.proofs.Common.{rules, sym, subst}
-use Rattle.es_domain.specs.Evaluation.{AddsValues}
+use Rattle.es_domain.specs.inner.Evaluation.{AddsValues}
 use Rattle.es_domain.proofs.ValuesLemmas.{head_assigned, rest_assigned, rest_follows, after_split, after_kinds_split, after_kinds_empty}
 use Rattle.es_domain.proofs.values.+push_after.Goals as goal
 

@@ -1,5 +1,5 @@
 use Rattle.std.proofs.Common.{rules, sym, subst}
-use Rattle.es_domain.specs.Evaluation.{AddsValues}
+use Rattle.es_domain.specs.inner.Evaluation.{AddsValues}
 use Rattle.es_domain.proofs.ValuesLemmas.{head_checked, rest_checked, rest_follows, values_split, kinds_split, kinds_empty}
 use Rattle.es_domain.proofs.values.+push_values.Goals as goal
 

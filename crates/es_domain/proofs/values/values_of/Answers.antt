@@ -1,5 +1,5 @@
 use Rattle.std.proofs.Common.{[], refl, sym, subst}
-use Rattle.es_domain.specs.Evaluation.{AreChecked}
+use Rattle.es_domain.specs.inner.Evaluation.{AreChecked}
 use Rattle.es_domain.proofs.values.values_of.Goals as goal
 
 pub returns-clause-kinds : goal.returns-clause-kinds

@@ -1,7 +1,7 @@
 use Rattle.std.proofs.Common.{◌≡◌, ◌^◌, IfSome, Some, rules}
 use Rattle.es_domain.specs.Effect.{made}
 use Rattle.es_domain.specs.Fold.{advanced}
-use Rattle.es_domain.specs.Overlay.{IsBelow}
+use Rattle.es_domain.specs.inner.Overlay.{IsBelow}
 use Rattle.es_domain.specs.Steps.{HasItsFields}
 use Rattle.es_repo.proofs.FoldingLemmas.{after-below}
 use Rattle.es_repo.proofs.JudgeLemmas.{if-ok, both-ok}

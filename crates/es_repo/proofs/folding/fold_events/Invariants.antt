@@ -1,6 +1,6 @@
 use Rattle.std.proofs.Common.{◌≡◌, ◌^◌, None, IfSome, drop}
-use Rattle.es_domain.specs.Overlay.{IsBelow}
-use Rattle.es_repo.specs.Reader.{folded_from}
+use Rattle.es_domain.specs.inner.Overlay.{IsBelow}
+use Rattle.es_repo.specs.inner.Reader.{folded_from}
 use Rattle.es_repo.proofs.folding.fold_events.Given as goal
 
 abbrev pub invariant-loop-event : goal.invariant-loop-event

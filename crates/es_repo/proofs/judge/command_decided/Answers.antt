@@ -1,6 +1,6 @@
 use Rattle.std.proofs.Common.{◌∙◌, ap}
 use Rattle.es_domain.specs.Decision.{command_decision}
-use Rattle.es_repo.specs.Reader.{Kept}
+use Rattle.es_repo.specs.inner.Reader.{Kept}
 use Rattle.es_repo.proofs.ToldLemmas.{decided-over}
 use Rattle.es_repo.proofs.judge.command_decided.Goals as goal
 

@@ -1,6 +1,6 @@
 use Rattle.std.proofs.Common.{◌∙◌, ap}
 use Rattle.es_domain.specs.Decision.{policy_decision, notice}
-use Rattle.es_repo.specs.Reader.{Kept}
+use Rattle.es_repo.specs.inner.Reader.{Kept}
 use Rattle.es_repo.proofs.ToldLemmas.{decided-over}
 use Rattle.es_repo.proofs.judge.policy_decided.Goals as goal
 

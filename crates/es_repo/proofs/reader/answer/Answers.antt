@@ -1,6 +1,3 @@
-use Rattle.std.proofs.Common.{◌≡◌, None, Some, IfSome, Option, List, ℕ, sym, ◌∙◌}
-use Rattle.es_model.specs.History.{log, own}
-use Rattle.es_repo.specs.Reader.{folded_from}
 use Rattle.es_repo.proofs.FoldingLemmas.{whole-told, stuck-told}
 use Rattle.es_repo.proofs.reader.answer.Goals as goal
 

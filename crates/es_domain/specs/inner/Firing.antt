@@ -2,18 +2,18 @@
 use Rattle.std.specs.Prelude.{ℤ, ℕ, ◌≡◌, ◌<◌, ◌+◌, ◌^◌, ◌-◌, IsTrue, All, List, [], ◌∷◌, Option, None, Some, Result, Ok, Err}
 use Rattle.es_model.specs.Declaration.{class_named, command_in}
 use Rattle.es_model.specs.Rising.{IsRising}
-use Rattle.es_model.specs.Values.{Record, are_of_kinds}
+use Rattle.es_model.specs.Values.{Name, Record, are_of_kinds}
 use Rattle.es_model.specs.declared.declaration.Class.{Class}
 use Rattle.es_model.specs.declared.declaration.CommandDef.{CommandDef}
 use Rattle.es_model.specs.declared.declaration.EventClass.{EventClass}
 use Rattle.es_model.specs.declared.declaration.Guard.{Guard}
 use Rattle.es_model.specs.declared.declaration.System.{System}
 use Rattle.es_model.specs.declared.declaration.Trigger.{Trigger}
-use Rattle.es_expr.specs.Misfits.{topic_of}
+use Rattle.es_model.specs.Names.{topic_of}
 use Rattle.es_expr.specs.Sound.{IsTest}
 use Rattle.es_domain.specs.Decision.{IsNewEvent}
 use Rattle.es_domain.specs.Effect.{seen}
-use Rattle.es_domain.specs.Evaluation.{AreChecked}
+use Rattle.es_domain.specs.inner.Evaluation.{AreChecked}
 use Rattle.es_domain.specs.Fold.{later_in}
 use Rattle.es_domain.specs.Steps.{HasItsFields}
 use Rattle.es_domain.specs.declared.effect.Effect.{Effect}
@@ -35,6 +35,10 @@ pub record IsReady (sys : System) (k : Class) (more : ℕ) (a : Aggregate) : Typ
   pub version : a.version + more < 2 ^ 63 - 1
   pub pending : All (IsNewEvent sys) a.pending
 
+-- an event is a later one of an aggregate's class
+abbrev pub IsLater : System → Aggregate → EventClass → Type 0
+IsLater sys a k = (topic : Name) × (later_in (class_named sys.classes a.class) topic ≡ Some k)
+
 -- a trigger gives the fields of a Created event
 abbrev pub CanOpen : Class → Command → ℤ → Trigger → Type 0
 CanOpen k c at t = IsRising k.created.fields → IsRising t.fields → AreChecked k.created.fields t.fields (seen c at None)
@@ -42,7 +46,7 @@ CanOpen k c at t = IsRising k.created.fields → IsRising t.fields → AreChecke
 -- a trigger gives the fields of a later event, over any aggregate of the class
 pub record CanFire (k : Class) (c : Command) (at : ℤ) (t : Trigger) : Type 0 where
   pub event : EventClass
-  pub later : later_in (Some k) (topic_of k t.event) ≡ Some event
+  pub later : later_in (Some k) (topic_of k.name t.event) ≡ Some event
   pub gives : IsRising event.fields → IsRising t.fields → (a : Aggregate) → IsTrue (are_of_kinds a.fields k.fields) → AreChecked event.fields t.fields (seen c at (Some a))
 
 abbrev pub CanAllFire : Class → Command → ℤ → List Trigger → Type 0

@@ -13,12 +13,12 @@ use Rattle.es_model.specs.declared.value.Atom.TheVariants as atom
 use Rattle.es_model.specs.declared.value.AtomKind.TheVariants as atom_kind
 use Rattle.es_model.specs.declared.value.Kind.TheVariants as kind
 use Rattle.es_model.specs.declared.value.Value.TheVariants as value
-use Rattle.es_expr.specs.Limits.{is_dot}
+use Rattle.es_model.specs.Names.{is_dot}
 use Rattle.es_expr.specs.Outcome.{Outcome, is, over}
 use Rattle.es_expr.specs.Sound.{IsTest, IsCheckedAs}
 use Rattle.es_domain.specs.Decision.{Notice, shown, command_for, IsOfCommand}
 use Rattle.es_domain.specs.Effect.{command_named}
-use Rattle.es_domain.specs.Evaluation.{AreChecked}
+use Rattle.es_domain.specs.inner.Evaluation.{AreChecked}
 use Rattle.es_domain.specs.declared.aggregate.TriggerFault.{TriggerFault}
 use Rattle.es_domain.specs.declared.aggregate.TriggerFault.TheVariants.{Overflow, NoMemory}
 use Rattle.es_domain.specs.declared.command.Command.{Command}

@@ -7,8 +7,6 @@ use Rattle.es_model.specs.declared.value.Kind.{Kind}
 use Rattle.es_model.specs.declared.value.Value.{Value}
 use Rattle.es_expr.specs.Outcome.{Outcome, is, over}
 use Rattle.es_expr.specs.Sound.{IsCheckedAs}
-use Rattle.es_expr.specs.declared.fault.EvalFault.{EvalFault}
-use Rattle.es_expr.specs.declared.fault.EvalFault.TheVariants as eval
 use Rattle.es_domain.specs.declared.aggregate.TriggerFault.{TriggerFault}
 use Rattle.es_domain.specs.declared.aggregate.TriggerFault.TheVariants.{Overflow, NoMemory}
 
@@ -40,11 +38,6 @@ MayFollow fields (x ∷ xs) = IsTrue (comes_last fields x.0) × IsRising (x ∷ 
 abbrev pub behind : Record → Option Record → Option Record
 behind front None = None
 behind front (Some r) = Some (front ++ r)
-
--- a fault of an evaluation
-abbrev pub fault_of : EvalFault → TriggerFault
-fault_of eval.Overflow = Overflow
-fault_of eval.NoMemory = NoMemory
 
 -- the answer is this value, or that a limit is passed, or that there was no memory
 abbrev pub GivesValue : Outcome → Result Value TriggerFault → Type 0

@@ -10,7 +10,7 @@ use Rattle.es_model.specs.declared.event.Recording.{Recording}
 use Rattle.es_model.specs.declared.event.StoredEvent.{StoredEvent}
 use Rattle.es_model.specs.declared.snapshot.Snapshot.{Snapshot}
 use Rattle.es_mapper.specs.Mapped.{event_of}
-use Rattle.es_domain.specs.Overlay.{IsBelow}
+use Rattle.es_domain.specs.inner.Overlay.{IsBelow}
 use Rattle.es_domain.specs.Readings.{Reading, folded, unreadable, Told}
 use Rattle.es_domain.specs.declared.aggregate.Aggregate.{Aggregate}
 use Rattle.es_domain.specs.declared.find.FindFault.{FindFault}

@@ -1,0 +1,4 @@
+pub mod Asking
+pub mod Evaluation
+pub mod Firing
+pub mod Overlay
