@@ -14,6 +14,3 @@ pub use adapters::{FileDocument, StdSink, StdSource, SystemClock};
 pub use lines::{Lines, LinesFault, Step};
 pub use memory::{Documents, ListClock, MemoryDocument, MemorySink, MemorySource};
 pub use outside::{Clock, Document, Sink, Source, write_all};
-
-#[cfg(test)]
-mod tests;

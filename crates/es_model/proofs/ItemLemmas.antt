@@ -3,7 +3,8 @@ use Rattle.std.proofs.Common.{◌≡◌, ◌∙◌, ℕ, IsTrue, Bool, true, fal
 use Rattle.std.proofs.lemmas.Slice.Eq.{bytes_eq-Decides}
 use Rattle.std.specs.Str.{bytes_eq}
 use Rattle.es_model.specs.Values.{Name}
-use Rattle.es_model.specs.Rising.{is_before, IsRising, item_of, with_item, without, has_name}
+use Rattle.es_model.specs.Rising.{is_before, IsRising, item_of, with_item, without}
+use Rattle.es_model.specs.inner.Entries.{has_name}
 use Rattle.es_model.proofs.RisingLemmas.{before-trans, unlike, unlike-back, other, IsPlace, place}
 
 pub itself : (name : Name) → bytes_eq name name ≡ true

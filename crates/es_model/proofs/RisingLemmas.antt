@@ -9,7 +9,8 @@ use Rattle.std.specs.declared.cmp.Ordering.TheVariants.{Less, Equal, Greater}
 use Rattle.std.specs.Cmp.Lexicographic.{slice_cmp}
 use Rattle.std.specs.Str.{bytes_eq}
 use Rattle.es_model.specs.Values.{Name}
-use Rattle.es_model.specs.Rising.{is_before, IsRising, comes_last, comes_first, item_of, with_item, without, has_name}
+use Rattle.es_model.specs.Rising.{is_before, IsRising, comes_last, comes_first, item_of, with_item, without}
+use Rattle.es_model.specs.inner.Entries.{has_name}
 
 -- the order of names
 

@@ -1,5 +1,5 @@
 -- Histories: the recordings of one application, in order.
-use Rattle.std.specs.Prelude.{ℕ, zero, suc, ◌+◌, ◌<◌, ◌^◌, ◌==◌, nat_lt, Bool, true, false, ◌&&◌, IsTrue, List, [], ◌∷◌, ◌++◌, length, take, filter, slice_get, Option, Some, None}
+use Rattle.std.specs.Prelude.{ℕ, ◌+◌, ◌<◌, ◌^◌, ◌==◌, nat_lt, Bool, true, false, ◌&&◌, IsTrue, List, [], ◌∷◌, ◌++◌, length, filter}
 use Rattle.std.specs.Str.{bytes_eq}
 use Rattle.es_model.specs.declared.event.StoredEvent.{StoredEvent}
 use Rattle.es_model.specs.declared.event.Recording.{Recording}
@@ -46,13 +46,3 @@ pub record IsFormed (h : List Recording) : Type 0 where
   pub causes : IsTrue (causes_follow [] h)
   pub few : length h < 2 ^ 62
   pub few_events : length (log h) < 2 ^ 62
-
--- whether an event has a meaning in its place, the last of these events of its originator, where `folds` says which lists of events of one originator do
-abbrev pub means : (List StoredEvent → Bool) → List StoredEvent → Option StoredEvent → Bool
-means folds upto None = false
-means folds upto (Some e) = folds (own upto e.originator_id)
-
--- whether entry n of a log, counted from 1, has a meaning: the events of its originator up to it fold
-abbrev pub has_meaning : (List StoredEvent → Bool) → List StoredEvent → ℕ → Bool
-has_meaning folds events zero = false
-has_meaning folds events (suc n) = means folds (take (suc n) events) (slice_get events n)

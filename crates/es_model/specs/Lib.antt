@@ -10,3 +10,4 @@ pub mod Snapshots
 pub mod Tracking
 pub mod Values
 pub mod formers
+pub mod inner

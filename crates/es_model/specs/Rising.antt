@@ -1,5 +1,5 @@
 -- Names in rising byte order, each with an item.
-use Rattle.std.specs.Prelude.{Bool, true, false, not, IsTrue, List, [], ◌∷◌, ◌++◌, filter, find, Option, None, Some, option_map}
+use Rattle.std.specs.Prelude.{Bool, true, not, IsTrue, List, [], ◌∷◌, ◌++◌, filter, find, Option, None, Some, option_map}
 use Rattle.std.specs.Ordering.{is_lt, nat_cmp}
 use Rattle.std.specs.Cmp.Lexicographic.{slice_cmp}
 use Rattle.std.specs.Str.{bytes_eq}
@@ -36,8 +36,3 @@ without xs name = filter (λ x. not (bytes_eq x.0 name)) xs
 -- a name with an item, between the names before it and those after it
 abbrev pub with_item : {A : Type 0} → List (Name × A) → Name → A → List (Name × A)
 with_item xs name item = filter (λ x. is_before x.0 name) xs ++ (name, item) ∷ filter (λ x. is_before name x.0) xs
-
--- there is an entry, and it has a name
-abbrev pub has_name : {A : Type 0} → Option (Name × A) → Name → Bool
-has_name None name = false
-has_name (Some x) name = bytes_eq x.0 name

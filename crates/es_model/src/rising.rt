@@ -1,6 +1,7 @@
 ghost use Rattle.std.specs.Prelude.{◌≡◌, ◌++◌, ◌∷◌, [], OnOk, OnErr, IsTrue, slice_get, count_by};
 ghost use Rattle.std.specs.Option.{option_copied};
-ghost use Rattle.es_model.specs.Rising.{comes_last, is_before, item_of, with_item, without, has_name, IsRising};
+ghost use Rattle.es_model.specs.Rising.{comes_last, is_before, item_of, with_item, without, IsRising};
+ghost use Rattle.es_model.specs.inner.Entries.{has_name};
 
 use crate::list::copies;
 use crate::{Duplicate, NoMemory, Text};

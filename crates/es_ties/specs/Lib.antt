@@ -3,4 +3,4 @@ pub mod Views
 pub mod Ties
 pub mod Steps
 pub mod Seats
-pub mod Gathering
+pub mod inner

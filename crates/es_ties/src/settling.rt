@@ -1,7 +1,7 @@
 // The end of ties.
 ghost use Rattle.std.specs.Prelude.{◌≡◌, ℕ, Some, slice_get};
 ghost use Rattle.es_ties.specs.Seen.{Writer, Witness, IsWithin, ArePensOf, AreReadersOf, HaveEachLog, IsBehindPens};
-ghost use Rattle.es_ties.specs.Gathering.{IsAbovePens, IsAboveReaders};
+ghost use Rattle.es_ties.specs.inner.Gathering.{IsAbovePens, IsAboveReaders};
 
 use crate::pen::Pen;
 use crate::reader::Reader;

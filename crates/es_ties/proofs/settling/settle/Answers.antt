@@ -1,6 +1,6 @@
 use Rattle.std.proofs.Common.{◌∙◌, List, sym, subst}
 use Rattle.es_ties.specs.Seen.{Writer, ArePensOf, IsBehindPens}
-use Rattle.es_ties.specs.Gathering.{IsAbovePens}
+use Rattle.es_ties.specs.inner.Gathering.{IsAbovePens}
 use Rattle.es_ties.proofs.Gathering.{within_trans, behind_more}
 use Rattle.es_ties.proofs.settling.settle.Goals as goal
 

@@ -1,5 +1,6 @@
 use Rattle.std.proofs.Common.{◌≡◌, ◌∙◌, sym, subst, true, false, slice_get, count_by, ap}
-use Rattle.es_model.specs.Rising.{IsRising, with_item, has_name, is_before}
+use Rattle.es_model.specs.Rising.{IsRising, with_item, is_before}
+use Rattle.es_model.specs.inner.Entries.{has_name}
 use Rattle.es_model.proofs.RisingLemmas.{replaced, inserted, IsRising-with_item}
 use Rattle.es_model.proofs.rising.Rising.put.Goals as goal
 

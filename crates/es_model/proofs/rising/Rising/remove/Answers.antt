@@ -1,6 +1,7 @@
 use Rattle.std.proofs.Common.{◌≡◌, ◌∙◌, sym, subst, true, false, not, slice_get, count_by, ap}
 use Rattle.std.specs.Str.{bytes_eq}
-use Rattle.es_model.specs.Rising.{IsRising, without, item_of, has_name, is_before}
+use Rattle.es_model.specs.Rising.{IsRising, without, item_of, is_before}
+use Rattle.es_model.specs.inner.Entries.{has_name}
 use Rattle.es_model.proofs.RisingLemmas.{removed, removed_item, kept, absent_item, IsRising-filter}
 use Rattle.es_model.proofs.rising.Rising.remove.Goals as goal
 
