@@ -4,12 +4,10 @@ ghost use Rattle.es_model.specs.Tracking.{tracked_in, id_from};
 ghost use Rattle.es_recorder.specs.Insert.{first_conflict, repeated, too_many};
 ghost use Rattle.es_recorder.specs.Selections.{tracks, is_notification};
 
+use es_model::limits::NUMBERS_END;
 use es_model::{Cause, Duplicate, NoMemory, Recording, Recordings, StoredEvent, Text};
 use es_recorder::InsertFault;
 use uuid::Uuid;
-
-// The number that all versions, ids and lengths are below.
-const MOST: u64 = 1 << 62;
 
 // How many of these events are of the originator.
 fn own_count(events: &[StoredEvent], id: Uuid) -> usize
@@ -139,7 +137,7 @@ pub fn count_events(history: &[Recording]) -> Option<u64>
     let mut count = 0u64;
     for recording in history {
         let more = recording.events.len() as u64;
-        if more >= MOST - count {
+        if more >= NUMBERS_END - count {
             return None;
         }
         count += more;
@@ -153,7 +151,8 @@ fn cause_comes(history: &[Recording], cause: &Cause) -> bool
 {
     match cause {
         Cause::Command { text: _ } => true,
-        Cause::Notification { leader, id } => tracked_of(history, leader) < *id && *id < MOST,
+        Cause::Notification { leader, id } => tracked_of(history, leader) < *id
+            && *id < NUMBERS_END,
     }
 }
 
@@ -187,7 +186,7 @@ pub fn is_formed(history: &Recordings) -> bool
     ensures { IsTrue result ↔ IsFormed history.now }
 {
     let recordings = history.as_slice();
-    if recordings.len() as u64 >= MOST || count_events(recordings).is_none() {
+    if recordings.len() as u64 >= NUMBERS_END || count_events(recordings).is_none() {
         return false;
     }
     versions_come(recordings) && causes_come(recordings)

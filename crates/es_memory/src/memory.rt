@@ -6,6 +6,7 @@ use crate::history::{
 };
 use crate::selections::{events_of, notifications_of, place_of_version};
 use crate::snapshots::{copy_at, newest_copy};
+use es_model::limits::NUMBERS_END;
 use es_model::{
     CallFault, Duplicate, NoMemory, Notifications, Recording, Recordings, Snapshot, Snapshots,
     StoredEvents, Text,
@@ -283,7 +284,7 @@ impl ProcessRecorder for MemoryRecorder {
             Err(fault) => return Err(fault),
         }
         let number = self.history.len() as u64 + 1;
-        if number >= 1 << 62 {
+        if number >= NUMBERS_END {
             return Err(InsertFault::NoMemory);
         }
         let Ok(copy) = recording.copy() else {
