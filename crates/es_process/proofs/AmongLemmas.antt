@@ -23,10 +23,6 @@ contains-cases x xs y so = cases_at x xs y so.0 so.1 so.2
 pub contains-none : {A P : Type 0} (y : A) → Contains [] y → P
 contains-none y so = let within : so.0 < 0 = so.1 in absurd (omega arith)
 
--- what holds of the first and of the rest holds of each
-pub contains-each : {A : Type 0} (P : A → Type 0) (x : A) (xs : List A) → P x → ((y : A) → Contains xs y → P y) → (y : A) → Contains (x ∷ xs) y → P y
-contains-each P x xs here later y so = elim (contains-cases x xs y so) [ inl is ↦ subst P is here | inr behind ↦ later y behind ]
-
 -- some of the elements, which pass a test
 pub contains-filter : {A : Type 0} (test : A → Bool) (xs : List A) (y : A) → Contains (filter test xs) y → Contains xs y
 contains-filter test [] y = λ so. so

@@ -9,7 +9,6 @@ use Rattle.es_model.specs.History.{log, latest}
 use Rattle.es_model.specs.Values.{Name, Id}
 use Rattle.es_model.proofs.HistoryLemmas.{latest-append}
 use Rattle.es_mapper.specs.Mapped.{event_of}
-use Rattle.es_domain.specs.declared.command.Command.{Command}
 use Rattle.es_io.specs.Readings.{Readings, later_readings}
 use Rattle.es_recorder.specs.declared.recorder.Inserted.{Inserted}
 use Rattle.es_recorder.specs.declared.recorder.InsertFault.{InsertFault}
@@ -17,13 +16,11 @@ use Rattle.es_recorder.specs.Insert.{too_many}
 use Rattle.es_process.specs.declared.faults.RunFault.{RunFault}
 use Rattle.es_process.specs.declared.faults.RunFault.TheVariants as fault
 use Rattle.es_lines.specs.declared.ends.End.TheVariants.{Full, Turns, Unreadable}
-use Rattle.es_lines.specs.declared.replies.Reply.TheVariants.{Accepted, Conflict}
-use Rattle.es_lines.specs.CommandText.{command_text}
-use Rattle.es_repo.specs.Verdicts.{command_verdict}
-use Rattle.es_process.specs.Answer.{Answer, says, accepts, ends, answer_of, accept_unless, recording_of, differs, Followed, adds, stops, add_unless, followed_of, followed, options}
+use Rattle.es_lines.specs.declared.replies.Reply.TheVariants.{Accepted}
+use Rattle.es_process.specs.Answer.{Answer, says, accepts, ends, accept_unless, recording_of, Followed, adds, stops, add_unless, followed_of, followed, options}
 use Rattle.es_process.specs.Decision.{Decision, Logs, events}
-use Rattle.es_process.specs.Leaves.{Adds, Gives, MayAdd, Leaves, command_answer, MayTake, Records, Takes}
-use Rattle.es_process.specs.SystemRules.{rules_of, decide_entry, decide_event, decision_of}
+use Rattle.es_process.specs.Leaves.{Adds, Gives, MayAdd, Leaves, MayTake, Records, Takes}
+use Rattle.es_process.specs.SystemRules.{rules_of, decide_entry, decide_event}
 
 may_take : (f : Followed) (h : List Recording) → MayTake f h (Some h)
 may_take (adds r) h = inl refl
@@ -93,16 +90,6 @@ pub takes_next : (sys : System) (capacity turns : ℕ) (app : Name) (h : List Re
 takes_next sys capacity turns app h used logs leader id at e d r result new now later free meant there so counted read =
     takes_of _ h used r result new now later (subst (λ f. Records f h result new) (sym (followed_is sys capacity turns app h used logs leader id at e (Some d) free meant there)) so) counted read
 
--- the next notification has no meaning
-pub stops_next : (sys : System) (capacity turns : ℕ) (app : Name) (h : List Recording) (used : ℕ) (logs : Logs) (leader : Name) (id : ℕ) (at : ℤ) (e : StoredEvent) → nat_le turns used ≡ false → event_of sys e ≡ None
-    → slice_get (logs leader) (id - 1) ≡ Some e → followed (rules_of sys) (options capacity turns) app h used logs leader id at ≡ stops (Unreadable leader id)
-stops_next sys capacity turns app h used logs leader id at e free none there = followed_is sys capacity turns app h used logs leader id at e None free none there
-
--- no turns are left
-pub no_turns : (sys : System) (capacity turns : ℕ) (app : Name) (h : List Recording) (used : ℕ) (logs : Logs) (leader : Name) (id : ℕ) (at : ℤ) → nat_le turns used ≡ true
-    → followed (rules_of sys) (options capacity turns) app h used logs leader id at ≡ stops (Turns app turns)
-no_turns sys capacity turns app h used logs leader id at all = λ i. if all i then stops (Turns app turns) else followed_of capacity app h leader id at (decide_entry sys app h leader id at (slice_get (logs leader) (id - 1)))
-
 -- the version after some events of an originator
 version_after : (h : List Recording) (es : List StoredEvent) (id : Id) (version count : ℕ) → version ≡ latest (log h) id → count ≡ latest es id → latest (log h ++ es) id ≡ version + count
 version_after h es id version count p q = latest-append (log h) es id ∙ (λ i. sym p i + sym q i)
@@ -123,13 +110,3 @@ not_answered capacity app h r id fault.NoMemory new so = so
 not_answered capacity app h r id (fault.Refused name leader n recordings code rule) new so = absurd so
 not_answered capacity app h r id (fault.Turns name turns) new so = absurd so
 not_answered capacity app h r id (fault.Unreadable name n) new so = absurd so
-
--- the answer to a command that expects another version, or not
-pub answer_conflict : (sys : System) (capacity : ℕ) (app : Name) (h : List Recording) (c : Command) (at : ℤ) → differs h c.id c.expect ≡ true → command_answer sys capacity app h c at ≡ says (Conflict (latest (log h) c.id))
-answer_conflict sys capacity app h c at other =
-    λ i. if other i then says (Conflict (latest (log h) c.id)) else answer_of capacity app h (command_text app c) c.id at (decision_of app (command_verdict sys c at h))
-
-pub answer_decided : (sys : System) (capacity : ℕ) (app : Name) (h : List Recording) (c : Command) (at : ℤ) → differs h c.id c.expect ≡ false
-    → command_answer sys capacity app h c at ≡ answer_of capacity app h (command_text app c) c.id at (decision_of app (command_verdict sys c at h))
-answer_decided sys capacity app h c at same =
-    λ i. if same i then says (Conflict (latest (log h) c.id)) else answer_of capacity app h (command_text app c) c.id at (decision_of app (command_verdict sys c at h))

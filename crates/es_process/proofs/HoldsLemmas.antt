@@ -10,7 +10,7 @@ use Rattle.es_io.specs.Readings.{Readings}
 use Rattle.es_process.specs.declared.application.Application.{Application}
 use Rattle.es_process.specs.Answer.{Options}
 use Rattle.es_process.specs.SingleThread.{is_among}
-use Rattle.es_process.specs.Standing.{State, HoldsOne, Holds, HoldHistories, AreElsewhere, AreDistinct, IsSame, names_in, snapshots_in, faults_at, count_of, Later, SomeRose}
+use Rattle.es_process.specs.Standing.{State, HoldsOne, Holds, HoldHistories, AreElsewhere, AreDistinct, Stays, IsSame, AllStay, names_in, snapshots_in, faults_at, count_of, Later, SomeRose}
 use Rattle.es_process.proofs.AmongLemmas.{contains-here, contains-later, contains-among}
 use Rattle.es_process.proofs.SetLemmas.{get-same, get-cases, map-set}
 
@@ -76,18 +76,19 @@ module _ {R : Type 0} where
     }
 
   -- an application that is the same
-  pub same-one : (history : R → Option (List Recording)) (capacity : R → ℕ) (o : Options) (a b : Application R) (s : State) → IsSame history capacity a b → HoldsOne history capacity o a s → HoldsOne history capacity o b s
+  pub same-one : (history : R → Option (List Recording)) (capacity : R → ℕ) {snapshots : R → Option (List Snapshot)} {faults : R → ℕ} (o : Options) (a b : Application R) (s : State) → IsSame history capacity snapshots faults a b
+      → HoldsOne history capacity o a s → HoldsOne history capacity o b s
   same-one history capacity o a b s same held = record {
-    told = same.told ∙ held.told ∙ ap (λ n. Some (s.histories n)) (sym same.name);
-    room = same.room ∙ held.room;
-    turns = same.turns ∙ held.turns;
-    counted = same.used ∙ held.counted ∙ ap s.used (sym same.name);
+    told = same.told ∙ held.told ∙ ap (λ n. Some (s.histories n)) (sym same.stays.name);
+    room = same.stays.room ∙ held.room;
+    turns = same.stays.turns ∙ held.turns;
+    counted = same.used ∙ held.counted ∙ ap s.used (sym same.stays.name);
   }
 
-  pub holds-same : (apps : List (Application R)) → AreDistinct (names_in apps) → (i : ℕ) (a b : Application R) → slice_get apps i ≡ Some a → (history : R → Option (List Recording)) (capacity : R → ℕ) → IsSame history capacity a b
-      → (base : Histories) (o : Options) (readings : Option Readings) (s : State) → Holds history capacity base o apps readings s → Holds history capacity base o (slice_set apps i b) readings s
+  pub holds-same : (apps : List (Application R)) → AreDistinct (names_in apps) → (i : ℕ) (a b : Application R) → slice_get apps i ≡ Some a → (history : R → Option (List Recording)) (capacity : R → ℕ) {snapshots : R → Option (List Snapshot)} {faults : R → ℕ}
+      → IsSame history capacity snapshots faults a b → (base : Histories) (o : Options) (readings : Option Readings) (s : State) → Holds history capacity base o apps readings s → Holds history capacity base o (slice_set apps i b) readings s
   holds-same apps distinct i a b at history capacity same base o readings s held =
-      holds-set apps distinct i a b at same.name history capacity base o readings readings s s held (same-one history capacity o a b s same (held.each i a at)) (λ n other. refl) (λ n other. refl) held.clock
+      holds-set apps distinct i a b at same.stays.name history capacity base o readings readings s s held (same-one history capacity o a b s same (held.each i a at)) (λ n other. refl) (λ n other. refl) held.clock
 
   -- the state tells the histories
   pub held-histories : (history : R → Option (List Recording)) (capacity : R → ℕ) (base : Histories) (o : Options) (apps : List (Application R)) (readings : Option Readings) (s : State) → Holds history capacity base o apps readings s → HoldHistories history base apps s.histories
@@ -117,6 +118,21 @@ module _ {R : Type 0} where
   later-set faults (c ∷ cs) zero a b at less (suc j) = omega arith
   later-set faults (c ∷ cs) (suc i) a b at less zero = omega arith
   later-set faults (c ∷ cs) (suc i) a b at less (suc j) = later-set faults cs i a b at less j
+
+  -- what stays of all applications: none changed, or some after others, or one
+  pub all-none : (snapshots : R → Option (List Snapshot)) (faults : R → ℕ) (apps : List (Application R)) → AllStay snapshots faults apps apps
+  all-none snapshots faults apps = record { names = refl; kept = refl; later = later-none faults apps }
+
+  pub all-then : {snapshots : R → Option (List Snapshot)} {faults : R → ℕ} {a b c : List (Application R)} → AllStay snapshots faults a b → AllStay snapshots faults b c → AllStay snapshots faults a c
+  all-then {snapshots} {faults} {a} {b} {c} x y = record { names = y.names ∙ x.names; kept = y.kept ∙ x.kept; later = later-then faults a b c x.later y.later }
+
+  pub all-set : {capacity : R → ℕ} {snapshots : R → Option (List Snapshot)} {faults : R → ℕ} (apps : List (Application R)) → AreDistinct (names_in apps) → (i : ℕ) (a b : Application R) → slice_get apps i ≡ Some a → Stays capacity snapshots faults a b
+      → AllStay snapshots faults apps (slice_set apps i b)
+  all-set {capacity} {snapshots} {faults} apps distinct i a b at stays = record {
+    names = names-kept apps distinct i a b at stays.name;
+    kept = snapshots-kept snapshots apps i a b at stays.kept;
+    later = later-set faults apps i a b at stays.later;
+  }
 
   pub rose-set : (faults : R → ℕ) (apps : List (Application R)) (i : ℕ) (a b : Application R) → slice_get apps i ≡ Some a → Rose (faults a.recorder) (faults b.recorder) → SomeRose faults apps (slice_set apps i b)
   rose-set faults apps i a b at rose = (i, omega (arith, count-at faults apps i a at, count-at faults (slice_set apps i b) i b (get-same apps i b a at), rose))

@@ -8,7 +8,6 @@ pub mod FollowsLemmas
 pub mod HoldsLemmas
 pub mod PairLemmas
 pub mod PlaceLemmas
-pub mod PlacedLemmas
 pub mod RunReachedLemmas
 pub mod RunSessionLemmas
 pub mod SessionLemmas
@@ -16,3 +15,4 @@ pub mod SetLemmas
 pub mod SingleThreadLemmas
 pub mod StandingLemmas
 pub mod TurnsLemmas
+pub mod TracedLemmas

@@ -1,5 +1,5 @@
 -- An application at its place, and what changes where it does.
-use Rattle.std.proofs.Common.{◌≡◌, inl, inr, ◌≤◌, ◌<◌, ◌+◌, ◌-◌, ℕ, zero, suc, Bool, true, false, IsTrue, List, [], ◌∷◌, ◌++◌, length, Option, Some, None, is_some, Contains, Result, IfOk, IfSome, slice_get, slice_set, get_or, map, cond, refl, sym, ap, ◌∙◌, subst, arith}
+use Rattle.std.proofs.Common.{◌≡◌, inl, inr, ◌<◌, ◌+◌, ◌-◌, ℕ, zero, suc, Bool, true, false, IsTrue, List, [], ◌∷◌, ◌++◌, length, Option, Some, None, is_some, Contains, Result, IfOk, IfSome, slice_get, slice_set, get_or, map, cond, refl, sym, ap, ◌∙◌, subst, arith}
 use Rattle.std.specs.Option.{option_to_list}
 use Rattle.std.specs.Str.{bytes_eq}
 use Rattle.std.proofs.lemmas.Option.{slice_get_within, slice_get-get_or}
@@ -24,11 +24,11 @@ use Rattle.es_process.specs.Answer.{Options, options, followed}
 use Rattle.es_process.specs.Decision.{logs_of}
 use Rattle.es_process.specs.Drains.{FindsNext, IsPairOf, AreApps, left_of, turns_left}
 use Rattle.es_process.specs.Leaves.{Processes}
-use Rattle.es_process.specs.Standing.{State, Holds, HoldHistories, AreDistinct, IsNextAfter, IsSame, Later, SomeRose, names_in, snapshots_in}
+use Rattle.es_process.specs.Standing.{State, Holds, HoldHistories, AreDistinct, IsNextAfter, IsSame, AllStay, SomeRose, names_in}
 use Rattle.es_process.specs.SystemRules.{rules_of}
 use Rattle.es_process.specs.Terms.{terms}
 use Rattle.es_process.proofs.AmongLemmas.{contains-cases, contains-none, is-same, put-here, put-other}
-use Rattle.es_process.proofs.HoldsLemmas.{contains-at, name-at, app-at, holds-set, holds-same, histories-set, names-kept, snapshots-kept, later-set, later-then, rose-set, rose-then}
+use Rattle.es_process.proofs.HoldsLemmas.{contains-at, name-at, app-at, holds-set, holds-same, histories-set, all-then, all-set, rose-set, rose-then}
 use Rattle.es_process.proofs.PairLemmas.{finds_next, follows_in, next_id, recorded_in}
 use Rattle.es_process.proofs.SetLemmas.{get-same}
 
@@ -133,8 +133,8 @@ module _ {R : Type 0} where
         (λ n differ. put-other s.histories p.follower_name (s.histories p.follower_name ++ r ∷ []) n (other n differ)) (λ n differ. put-other s.used p.follower_name (s.used p.follower_name + 1) n (other n differ)) read
 
 -- two applications that are the same as they were, one after another
-module _ {R : Type 0} (history : R → Option (List Recording)) (capacity : R → ℕ) (faults : R → ℕ) (apps : List (Application R)) (distinct : AreDistinct (names_in apps)) (i j : ℕ) (n m : Name) (x y b d : Application R)
-    (placed : slice_get (names_in apps) i ≡ Some n) (placed_too : slice_get (names_in apps) j ≡ Some m) (first : IsSame history capacity (get_or apps i x) b) where
+module _ {R : Type 0} (history : R → Option (List Recording)) (capacity : R → ℕ) (snapshots : R → Option (List Snapshot)) (faults : R → ℕ) (apps : List (Application R)) (distinct : AreDistinct (names_in apps)) (i j : ℕ) (n m : Name)
+    (x y b d : Application R) (placed : slice_get (names_in apps) i ≡ Some n) (placed_too : slice_get (names_in apps) j ≡ Some m) (first : IsSame history capacity snapshots faults (get_or apps i x) b) where
   abbrev first_app : Application R
   first_app = get_or apps i x
 
@@ -144,8 +144,11 @@ module _ {R : Type 0} (history : R → Option (List Recording)) (capacity : R �
   at_first : slice_get apps i ≡ Some first_app
   at_first = place-read apps i n x placed
 
+  first-stay : AllStay snapshots faults apps (slice_set apps i b)
+  first-stay = all-set apps distinct i first_app b at_first first.stays
+
   pub first-names : names_in (slice_set apps i b) ≡ names_in apps
-  first-names = names-kept apps distinct i first_app b at_first first.name
+  first-names = first-stay.names
 
   still_placed : slice_get (names_in (slice_set apps i b)) j ≡ Some m
   still_placed = ap (λ ns. slice_get ns j) first-names ∙ placed_too
@@ -169,25 +172,18 @@ module _ {R : Type 0} (history : R → Option (List Recording)) (capacity : R �
   pub second-told : (base : Histories) (o : Options) (readings : Option Readings) (s : State) → Holds history capacity base o apps readings s → history second_app.recorder ≡ Some (s.histories m)
   second-told base o readings s held = ((first-holds base o readings s held).each j second_app at_second).told ∙ ap (λ k. Some (s.histories k)) (place-name (slice_set apps i b) j m second_app still_placed at_second)
 
-  module _ (second : IsSame history capacity second_app d) where
+  module _ (second : IsSame history capacity snapshots faults second_app d) where
     pub both-hold : (base : Histories) (o : Options) (readings : Option Readings) (s : State) → Holds history capacity base o apps readings s → Holds history capacity base o (slice_set (slice_set apps i b) j d) readings s
     both-hold base o readings s held = holds-same (slice_set apps i b) still_distinct j second_app d at_second history capacity second base o readings s (first-holds base o readings s held)
 
-    pub both-names : names_in (slice_set (slice_set apps i b) j d) ≡ names_in apps
-    both-names = names-kept (slice_set apps i b) still_distinct j second_app d at_second second.name ∙ first-names
-
-    pub both-snapshots : (snapshots : R → Option (List Snapshot)) → snapshots b.recorder ≡ snapshots first_app.recorder → snapshots d.recorder ≡ snapshots second_app.recorder
-        → snapshots_in snapshots (slice_set (slice_set apps i b) j d) ≡ snapshots_in snapshots apps
-    both-snapshots snapshots p q = snapshots-kept snapshots (slice_set apps i b) j second_app d at_second q ∙ snapshots-kept snapshots apps i first_app b at_first p
+    pub both-stay : AllStay snapshots faults apps (slice_set (slice_set apps i b) j d)
+    both-stay = all-then first-stay (all-set (slice_set apps i b) still_distinct j second_app d at_second second.stays)
 
     pub both-left : (k : ℕ) → turns_left (slice_set (slice_set apps i b) j d) k ≡ turns_left apps k
-    both-left k = left-same (slice_set apps i b) j k second_app d at_second second.turns second.used ∙ left-same apps i k first_app b at_first first.turns first.used
+    both-left k = left-same (slice_set apps i b) j k second_app d at_second second.stays.turns second.used ∙ left-same apps i k first_app b at_first first.stays.turns first.used
 
-  pub both-later : faults first_app.recorder ≤ faults b.recorder → faults second_app.recorder ≤ faults d.recorder → Later faults apps (slice_set (slice_set apps i b) j d)
-  both-later less more = later-then faults apps (slice_set apps i b) (slice_set (slice_set apps i b) j d) (later-set faults apps i first_app b at_first less) (later-set faults (slice_set apps i b) j second_app d at_second more)
-
-  pub second-rose : faults first_app.recorder ≤ faults b.recorder → Rose (faults second_app.recorder) (faults d.recorder) → SomeRose faults apps (slice_set (slice_set apps i b) j d)
-  second-rose less rose = rose-then faults apps (slice_set apps i b) (slice_set (slice_set apps i b) j d) (later-set faults apps i first_app b at_first less) (rose-set faults (slice_set apps i b) j second_app d at_second rose)
+  pub second-rose : Rose (faults second_app.recorder) (faults d.recorder) → SomeRose faults apps (slice_set (slice_set apps i b) j d)
+  second-rose rose = rose-then faults apps (slice_set apps i b) (slice_set (slice_set apps i b) j d) first-stay.later (rose-set faults (slice_set apps i b) j second_app d at_second rose)
 
 -- the follower of the pair, where the next notification is processed
 module _ {R : Type 0} (sys : System) (apps : List (Application R)) (p : Pair) (pair : IsPairOf sys (names_in apps) p) (x : Application R) where

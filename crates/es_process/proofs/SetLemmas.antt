@@ -6,13 +6,6 @@ get-same [] i x y there = absurd (cc there)
 get-same (z ∷ zs) zero x y there = refl
 get-same (z ∷ zs) (suc i) x y there = get-same zs i x y there
 
-pub get-other : {A : Type 0} (xs : List A) (i j : ℕ) (x : A) → (j ≡ i → ⊥) → slice_get (slice_set xs i x) j ≡ slice_get xs j
-get-other [] i j x other = refl
-get-other (z ∷ zs) zero zero x other = absurd (other refl)
-get-other (z ∷ zs) zero (suc j) x other = refl
-get-other (z ∷ zs) (suc i) zero x other = refl
-get-other (z ∷ zs) (suc i) (suc j) x other = get-other zs i j x (λ e. other (ap suc e))
-
 pub map-set : {A B : Type 0} (f : A → B) (xs : List A) (i : ℕ) (x y : A) → slice_get xs i ≡ Some y → f x ≡ f y → map f (slice_set xs i x) ≡ map f xs
 map-set f [] i x y there same = refl
 map-set f (z ∷ zs) zero x y there same = let is : z ≡ y = cc in ap (λ b. b ∷ map f zs) (same ∙ ap f (sym is))

@@ -13,3 +13,4 @@ pub mod SingleThread
 pub mod Standing
 pub mod SystemRules
 pub mod Terms
+pub mod Traced

@@ -72,12 +72,18 @@ pub record IsSmall (n : Notification) : Type 0 where
 abbrev pub MayFailToRead : RunFault → Type 0
 MayFailToRead f = (f ≡ fault.Recorder) ⊎ (f ≡ fault.NoMemory)
 
--- what an application holds besides its count of faults is as it was
-pub record IsSame {R : Type 0} (history : R → Option (List Recording)) (capacity : R → ℕ) (old new : Application R) : Type 0 where
+-- what every call leaves of an application: its name, its limits and its snapshots; no count of faults falls
+pub record Stays {R : Type 0} (capacity : R → ℕ) (snapshots : R → Option (List Snapshot)) (faults : R → ℕ) (old new : Application R) : Type 0 where
   pub name : new.name ≡ old.name
-  pub told : history new.recorder ≡ history old.recorder
-  pub room : capacity new.recorder ≡ capacity old.recorder
   pub turns : new.turns ≡ old.turns
+  pub room : capacity new.recorder ≡ capacity old.recorder
+  pub kept : snapshots new.recorder ≡ snapshots old.recorder
+  pub later : faults old.recorder ≤ faults new.recorder
+
+-- and all else that it holds
+pub record IsSame {R : Type 0} (history : R → Option (List Recording)) (capacity : R → ℕ) (snapshots : R → Option (List Snapshot)) (faults : R → ℕ) (old new : Application R) : Type 0 where
+  pub stays : Stays capacity snapshots faults old new
+  pub told : history new.recorder ≡ history old.recorder
   pub used : new.used ≡ old.used
 
 -- how often the recorder of the application at a place has failed
@@ -91,6 +97,12 @@ faults_at faults apps i = count_of faults (slice_get apps i)
 -- no count of faults has fallen
 abbrev pub Later : {R : Type 0} → (R → ℕ) → List (Application R) → List (Application R) → Type 0
 Later faults old new = (i : ℕ) → faults_at faults old i ≤ faults_at faults new i
+
+-- what every call leaves of some applications: their names and their snapshots; no count of faults falls
+pub record AllStay {R : Type 0} (snapshots : R → Option (List Snapshot)) (faults : R → ℕ) (old new : List (Application R)) : Type 0 where
+  pub names : names_in new ≡ names_in old
+  pub kept : snapshots_in snapshots new ≡ snapshots_in snapshots old
+  pub later : Later faults old new
 
 -- one of them has risen
 abbrev pub SomeRose : {R : Type 0} → (R → ℕ) → List (Application R) → List (Application R) → Type 0

@@ -1,12 +1,12 @@
 //! One application over its recorder: what it makes of a command, and of a leader's notification.
-ghost use Rattle.std.specs.Prelude.{◌≡◌, ◌⊎◌, ◌≤◌, ◌<◌, ◌^◌, ◌-◌, ◌+◌, ◌∷◌, [], List, Some, None, All, IsTrue, is_some, OnOk, OnErr, IfOk, IfErr, IsErrOf, IfSome, length, slice_get};
+ghost use Rattle.std.specs.Prelude.{◌≡◌, ◌⊎◌, ◌≤◌, ◌<◌, ◌^◌, ◌-◌, ◌+◌, List, Some, None, All, IsTrue, is_some, OnOk, OnErr, IfOk, IfErr, IsErrOf, IfSome, length, slice_get};
 ghost use Rattle.es_model.specs.declared.event.Recording.{Recording};
 ghost use Rattle.es_model.specs.Causes.{Rose};
 ghost use Rattle.es_model.specs.Declaration.{app_named};
 ghost use Rattle.es_model.specs.History.{log, latest};
 ghost use Rattle.es_model.specs.Tracking.{tracked_in};
 ghost use Rattle.es_model.specs.Values.{Id};
-ghost use Rattle.es_io.specs.Readings.{Readings, first_reading, later_readings};
+ghost use Rattle.es_io.specs.Readings.{Readings, first_reading};
 ghost use Rattle.es_expr.specs.Checked.{IsCheckedSystem};
 ghost use Rattle.es_domain.specs.Decision.{IsNotice, notice};
 ghost use Rattle.es_recorder.specs.Insert.{IsInsertable, first_conflict, too_many};
@@ -18,7 +18,8 @@ ghost use Rattle.es_process.specs.Answer.{recording_of as recording_at, options,
 ghost use Rattle.es_process.specs.Decision.{Logs};
 ghost use Rattle.es_process.specs.SystemRules.{rules_of, decision_of};
 ghost use Rattle.es_process.specs.Leaves.{Fits, Adds, MayFailToAdd, Leaves, command_answer, readings_after, Processes, Takes, Records, Decides, MayRefuse, IsRecorded, Converts};
-ghost use Rattle.es_process.specs.Standing.{IsSame, IsSmall, IsNextAfter, MayFailToRead};
+ghost use Rattle.es_process.specs.Traced.{Traced};
+ghost use Rattle.es_process.specs.Standing.{IsSame, IsSmall, IsNextAfter, MayFailToRead, Stays};
 
 use crate::faults::RunFault;
 use es_domain::Command;
@@ -143,12 +144,8 @@ impl<R: ProcessRecorder> Application<R> {
         requires fits { IfSome (R.history self.old.recorder) (λ h. Fits h recording.now) }
         ensures adds { (h : List Recording) → R.history self.old.recorder ≡ Some h → Adds (R.capacity self.old.recorder) self.old.name h recording.now result (R.history self.new.recorder) }
         ensures faults { IfErr result MayFailToAdd }
-        ensures same_name { self.new.name ≡ self.old.name }
-        ensures same_turns { self.new.turns ≡ self.old.turns }
+        ensures same { Stays R.capacity R.snapshots R.faults self.old self.new }
         ensures same_used { self.new.used ≡ self.old.used }
-        ensures same_capacity { R.capacity self.new.recorder ≡ R.capacity self.old.recorder }
-        ensures same_snapshots { R.snapshots self.new.recorder ≡ R.snapshots self.old.recorder }
-        ensures later { R.faults self.old.recorder ≤ R.faults self.new.recorder }
         ensures failed { IsErrOf result RunFault.Recorder → Rose (R.faults self.old.recorder) (R.faults self.new.recorder) }
     {
         match self.recorder.insert(recording) {
@@ -184,17 +181,11 @@ impl<R: ProcessRecorder> Application<R> {
     ) -> Result<Reply, RunFault>
         requires checked { IsCheckedSystem sys.now }
         requires declared { IsDeclared sys.now self.old.name command.now }
-        ensures leaves { (h : List Recording) (r : Readings) → R.history self.old.recorder ≡ Some h → C.readings clock.old ≡ Some r
-            → Leaves (command_answer sys.now (R.capacity self.old.recorder) self.old.name h command.now (first_reading r)) h result (R.history self.new.recorder) }
-        ensures reading { (h : List Recording) (r : Readings) → R.history self.old.recorder ≡ Some h → C.readings clock.old ≡ Some r
-            → OnOk result (C.readings clock.new ≡ Some (readings_after h command.now r)) }
+        ensures leaves { Traced (C.readings clock.old) (C.readings clock.new) (λ before after. (h : List Recording) (r : Readings) → R.history self.old.recorder ≡ Some h → before ≡ Some r
+            → Leaves (command_answer sys.now (R.capacity self.old.recorder) self.old.name h command.now (first_reading r)) h result (R.history self.new.recorder) × OnOk result (after ≡ Some (readings_after h command.now r))) }
         ensures faults { IfErr result MayFailToAdd }
-        ensures same_name { self.new.name ≡ self.old.name }
-        ensures same_turns { self.new.turns ≡ self.old.turns }
+        ensures same { Stays R.capacity R.snapshots R.faults self.old self.new }
         ensures same_used { self.new.used ≡ self.old.used }
-        ensures same_capacity { R.capacity self.new.recorder ≡ R.capacity self.old.recorder }
-        ensures same_snapshots { R.snapshots self.new.recorder ≡ R.snapshots self.old.recorder }
-        ensures later { R.faults self.old.recorder ≤ R.faults self.new.recorder }
         ensures failed { IsErrOf result RunFault.Recorder → Rose (R.faults self.old.recorder) (R.faults self.new.recorder) }
     {
         let version = self.recorder.latest_version(command.id)?;
@@ -220,12 +211,8 @@ impl<R: ProcessRecorder> Application<R> {
         ensures leaves { (h : List Recording) → R.history self.old.recorder ≡ Some h → version ≡ latest (log h) command.now.id
             → Leaves (answer_of (R.capacity self.old.recorder) self.old.name h (command_text self.old.name command.now) command.now.id at (decision_of self.old.name (command_verdict sys.now command.now at h))) h result (R.history self.new.recorder) }
         ensures faults { IfErr result MayFailToAdd }
-        ensures same_name { self.new.name ≡ self.old.name }
-        ensures same_turns { self.new.turns ≡ self.old.turns }
+        ensures same { Stays R.capacity R.snapshots R.faults self.old self.new }
         ensures same_used { self.new.used ≡ self.old.used }
-        ensures same_capacity { R.capacity self.new.recorder ≡ R.capacity self.old.recorder }
-        ensures same_snapshots { R.snapshots self.new.recorder ≡ R.snapshots self.old.recorder }
-        ensures later { R.faults self.old.recorder ≤ R.faults self.new.recorder }
         ensures failed { IsErrOf result RunFault.Recorder → Rose (R.faults self.old.recorder) (R.faults self.new.recorder) }
     {
         let verdict = judge_command(alloc, sys, &mut self.recorder, command, at)?;
@@ -247,12 +234,8 @@ impl<R: ProcessRecorder> Application<R> {
         ensures leaves { (h : List Recording) → R.history self.old.recorder ≡ Some h → version ≡ latest (log h) command.now.id
             → Leaves (answer_of (R.capacity self.old.recorder) self.old.name h (command_text self.old.name command.now) command.now.id at (decision_of self.old.name verdict)) h result (R.history self.new.recorder) }
         ensures faults { IfErr result MayFailToAdd }
-        ensures same_name { self.new.name ≡ self.old.name }
-        ensures same_turns { self.new.turns ≡ self.old.turns }
+        ensures same { Stays R.capacity R.snapshots R.faults self.old self.new }
         ensures same_used { self.new.used ≡ self.old.used }
-        ensures same_capacity { R.capacity self.new.recorder ≡ R.capacity self.old.recorder }
-        ensures same_snapshots { R.snapshots self.new.recorder ≡ R.snapshots self.old.recorder }
-        ensures later { R.faults self.old.recorder ≤ R.faults self.new.recorder }
         ensures failed { IsErrOf result RunFault.Recorder → Rose (R.faults self.old.recorder) (R.faults self.new.recorder) }
     {
         match verdict {
@@ -280,12 +263,8 @@ impl<R: ProcessRecorder> Application<R> {
         ensures leaves { (h : List Recording) → R.history self.old.recorder ≡ Some h → version ≡ latest (log h) command.now.id
             → Leaves (accept_unless (too_many (R.capacity self.old.recorder) (length (log h)) events) (R.capacity self.old.recorder) self.old.name h (recording_at (Cause.Command (command_text self.old.name command.now)) at events) command.now.id) h result (R.history self.new.recorder) }
         ensures faults { IfErr result MayFailToAdd }
-        ensures same_name { self.new.name ≡ self.old.name }
-        ensures same_turns { self.new.turns ≡ self.old.turns }
+        ensures same { Stays R.capacity R.snapshots R.faults self.old self.new }
         ensures same_used { self.new.used ≡ self.old.used }
-        ensures same_capacity { R.capacity self.new.recorder ≡ R.capacity self.old.recorder }
-        ensures same_snapshots { R.snapshots self.new.recorder ≡ R.snapshots self.old.recorder }
-        ensures later { R.faults self.old.recorder ≤ R.faults self.new.recorder }
         ensures failed { IsErrOf result RunFault.Recorder → Rose (R.faults self.old.recorder) (R.faults self.new.recorder) }
     {
         let version = version + count_own(events.as_slice(), command.id);
@@ -306,9 +285,7 @@ impl<R: ProcessRecorder> Application<R> {
         ensures value { IfSome (R.history self.old.recorder) (λ h. IfOk result (λ id. id ≡ tracked_in h leader.now)) }
         ensures small { IfOk result (λ id. id < 2 ^ 62) }
         ensures faults { IfErr result MayFailToRead }
-        ensures same { IsSame R.history R.capacity self.old self.new }
-        ensures same_snapshots { R.snapshots self.new.recorder ≡ R.snapshots self.old.recorder }
-        ensures later { R.faults self.old.recorder ≤ R.faults self.new.recorder }
+        ensures same { IsSame R.history R.capacity R.snapshots R.faults self.old self.new }
         ensures failed { IsErrOf result RunFault.Recorder → Rose (R.faults self.old.recorder) (R.faults self.new.recorder) }
     {
         Ok(self.recorder.max_tracking_id(leader)?)
@@ -320,9 +297,7 @@ impl<R: ProcessRecorder> Application<R> {
         ensures found { IfSome (R.history self.old.recorder) (λ h. IfOk result (IsNextAfter (log h) tracked)) }
         ensures small { IfOk result (λ found. IfSome found IsSmall) }
         ensures faults { IfErr result MayFailToRead }
-        ensures same { IsSame R.history R.capacity self.old self.new }
-        ensures same_snapshots { R.snapshots self.new.recorder ≡ R.snapshots self.old.recorder }
-        ensures later { R.faults self.old.recorder ≤ R.faults self.new.recorder }
+        ensures same { IsSame R.history R.capacity R.snapshots R.faults self.old self.new }
         ensures failed { IsErrOf result RunFault.Recorder → Rose (R.faults self.old.recorder) (R.faults self.new.recorder) }
     {
         let next = self.recorder.select_notifications(tracked + 1, 1)?;
@@ -343,20 +318,16 @@ impl<R: ProcessRecorder> Application<R> {
         requires app { IsTrue (is_some (app_named sys.now.apps self.old.name)) }
         requires leader { IsTrue (is_some (app_named sys.now.apps leader.now)) }
         requires small { IsSmall notification.now }
-        ensures processed { (logs : Logs) (h : List Recording) (r : Readings) → slice_get (logs leader.now) (notification.now.id - 1) ≡ Some notification.now.event
-            → R.history self.old.recorder ≡ Some h → C.readings clock.old ≡ Some r
+        ensures processed { Traced (C.readings clock.old) (C.readings clock.new) (λ before after. (logs : Logs) (h : List Recording) (r : Readings) → slice_get (logs leader.now) (notification.now.id - 1) ≡ Some notification.now.event
+            → R.history self.old.recorder ≡ Some h → before ≡ Some r
             → Processes leader.now notification.now.id
             (followed (rules_of sys.now) (options (R.capacity self.old.recorder) self.old.turns) self.old.name h self.old.used logs leader.now notification.now.id (first_reading r))
-            h self.old.used r result (R.history self.new.recorder) self.new.used (C.readings clock.new) }
+            h self.old.used r result (R.history self.new.recorder) self.new.used after) }
         ensures counts { self.old.used ≤ self.new.used }
         ensures bounded { self.old.used ≤ self.old.turns → self.new.used ≤ self.new.turns }
         ensures counted { IsRecorded result → self.new.used ≡ self.old.used + 1 }
         ensures free { IsRecorded result → self.old.used < self.old.turns }
-        ensures same_name { self.new.name ≡ self.old.name }
-        ensures same_turns { self.new.turns ≡ self.old.turns }
-        ensures same_capacity { R.capacity self.new.recorder ≡ R.capacity self.old.recorder }
-        ensures same_snapshots { R.snapshots self.new.recorder ≡ R.snapshots self.old.recorder }
-        ensures later { R.faults self.old.recorder ≤ R.faults self.new.recorder }
+        ensures same { Stays R.capacity R.snapshots R.faults self.old self.new }
         ensures failed { IsErrOf result RunFault.Recorder → Rose (R.faults self.old.recorder) (R.faults self.new.recorder) }
     {
         let tracked = self.recorder.max_tracking_id(leader)?;
@@ -389,18 +360,14 @@ impl<R: ProcessRecorder> Application<R> {
         requires leader { IsTrue (is_some (app_named sys.now.apps leader.now)) }
         requires small { IsSmall notification.now }
         requires next { IfSome (R.history self.old.recorder) (λ h. notification.now.id ≡ tracked_in h leader.now + 1) }
-        ensures taken { (logs : Logs) (h : List Recording) (r : Readings) → slice_get (logs leader.now) (notification.now.id - 1) ≡ Some notification.now.event
-            → R.history self.old.recorder ≡ Some h → C.readings clock.old ≡ Some r
+        ensures taken { Traced (C.readings clock.old) (C.readings clock.new) (λ before after. (logs : Logs) (h : List Recording) (r : Readings) → slice_get (logs leader.now) (notification.now.id - 1) ≡ Some notification.now.event
+            → R.history self.old.recorder ≡ Some h → before ≡ Some r
             → Takes (followed (rules_of sys.now) (options (R.capacity self.old.recorder) self.old.turns) self.old.name h self.old.used logs leader.now notification.now.id (first_reading r))
-            h self.old.used r result (R.history self.new.recorder) self.new.used (C.readings clock.new) }
+            h self.old.used r result (R.history self.new.recorder) self.new.used after) }
         ensures counted { OnOk result (self.new.used ≡ self.old.used + 1) }
         ensures uncounted { OnErr result (self.new.used ≡ self.old.used) }
         ensures free { OnOk result (self.old.used < self.old.turns) }
-        ensures same_name { self.new.name ≡ self.old.name }
-        ensures same_turns { self.new.turns ≡ self.old.turns }
-        ensures same_capacity { R.capacity self.new.recorder ≡ R.capacity self.old.recorder }
-        ensures same_snapshots { R.snapshots self.new.recorder ≡ R.snapshots self.old.recorder }
-        ensures later { R.faults self.old.recorder ≤ R.faults self.new.recorder }
+        ensures same { Stays R.capacity R.snapshots R.faults self.old self.new }
         ensures failed { IsErrOf result RunFault.Recorder → Rose (R.faults self.old.recorder) (R.faults self.new.recorder) }
     {
         if self.used >= self.turns {
@@ -436,11 +403,7 @@ impl<R: ProcessRecorder> Application<R> {
             → Records (followed_of (R.capacity self.old.recorder) self.old.name h leader.now id at (decision_of self.old.name (policy_verdict sys.now self.old.name (notice leader.now id event.now) at h))) h result (R.history self.new.recorder) }
         ensures counted { OnOk result (self.new.used ≡ self.old.used + 1) }
         ensures uncounted { OnErr result (self.new.used ≡ self.old.used) }
-        ensures same_name { self.new.name ≡ self.old.name }
-        ensures same_turns { self.new.turns ≡ self.old.turns }
-        ensures same_capacity { R.capacity self.new.recorder ≡ R.capacity self.old.recorder }
-        ensures same_snapshots { R.snapshots self.new.recorder ≡ R.snapshots self.old.recorder }
-        ensures later { R.faults self.old.recorder ≤ R.faults self.new.recorder }
+        ensures same { Stays R.capacity R.snapshots R.faults self.old self.new }
         ensures failed { IsErrOf result RunFault.Recorder → Rose (R.faults self.old.recorder) (R.faults self.new.recorder) }
     {
         let events = match self.follow(alloc, sys, leader, id, event, at) {
@@ -479,9 +442,7 @@ impl<R: ProcessRecorder> Application<R> {
         ensures small { IfOk result (λ es. All (λ e. e.originator_version < 2 ^ 63) es) }
         ensures follows { (h : List Recording) → R.history self.old.recorder ≡ Some h → IfOk result (λ es. first_conflict (log h) es ≡ None) }
         ensures faults { IfErr result MayRefuse }
-        ensures same { IsSame R.history R.capacity self.old self.new }
-        ensures same_snapshots { R.snapshots self.new.recorder ≡ R.snapshots self.old.recorder }
-        ensures later { R.faults self.old.recorder ≤ R.faults self.new.recorder }
+        ensures same { IsSame R.history R.capacity R.snapshots R.faults self.old self.new }
         ensures failed { IsErrOf result RunFault.Recorder → Rose (R.faults self.old.recorder) (R.faults self.new.recorder) }
     {
         let verdict = judge_policy(
@@ -508,9 +469,7 @@ impl<R: ProcessRecorder> Application<R> {
         ensures decides { (h : List Recording) → R.history self.old.recorder ≡ Some h → Decides self.old.name h leader.now id (decision_of self.old.name verdict) result }
         ensures events { IfOk result (λ es. verdict ≡ verdicts.Events es) }
         ensures faults { IfErr result MayRefuse }
-        ensures same { IsSame R.history R.capacity self.old self.new }
-        ensures same_snapshots { R.snapshots self.new.recorder ≡ R.snapshots self.old.recorder }
-        ensures later { R.faults self.old.recorder ≤ R.faults self.new.recorder }
+        ensures same { IsSame R.history R.capacity R.snapshots R.faults self.old self.new }
         ensures failed { IsErrOf result RunFault.Recorder → Rose (R.faults self.old.recorder) (R.faults self.new.recorder) }
     {
         match verdict {

@@ -1,12 +1,13 @@
 //! How the followers of prompted leaders process their notifications.
-ghost use Rattle.std.specs.Prelude.{◌≡◌, ◌<◌, ◌+◌, ◌^◌, ℕ, List, Option, Some, Ok, true, IfOk, IfErr, IfSome, IsErrOf, slice_get};
+ghost use Rattle.std.specs.Prelude.{◌≡◌, ◌<◌, ℕ, List, Option, Some, Ok, true, IfOk, IfErr, IfSome, IsErrOf};
 ghost use Rattle.es_model.specs.History.{Histories};
 ghost use Rattle.es_model.specs.Values.{Name};
 ghost use Rattle.es_process.specs.Answer.{Options};
 ghost use Rattle.es_process.specs.SystemRules.{rules_of};
 ghost use Rattle.es_process.specs.Drains.{IsPairOf, IsOnlyPair, FindsNext, FollowsOne, FollowsAll, DrainsLeader, Drains, turns_left};
-ghost use Rattle.es_process.specs.Standing.{State, Holds, HoldHistories, Later, SomeRose, names_in, snapshots_in, IsSmall, MayFailToRead};
+ghost use Rattle.es_process.specs.Standing.{State, Holds, HoldHistories, AllStay, SomeRose, names_in, IsSmall, MayFailToRead};
 ghost use Rattle.es_process.specs.Terms.{terms};
+ghost use Rattle.es_process.specs.Traced.{Traced};
 
 use crate::faults::RunFault;
 use crate::{Application, Processed};
@@ -32,13 +33,11 @@ fn next_of<R: ProcessRecorder>(
 ) -> Result<Option<Notification>, RunFault>
     requires pair { IsPairOf sys.now (names_in apps.old) pair.now }
     ensures found { (base : Histories) (options : Options) (readings : Option _) (s : State) → Holds R.history R.capacity base options apps.old readings s → IfOk result (FindsNext s pair.now) }
-    ensures same { (base : Histories) (options : Options) (readings : Option _) (s : State) → Holds R.history R.capacity base options apps.old readings s → Holds R.history R.capacity base options apps.new readings s }
+    ensures holds { (base : Histories) (options : Options) (readings : Option _) (s : State) → Holds R.history R.capacity base options apps.old readings s → Holds R.history R.capacity base options apps.new readings s }
     ensures small { IfOk result (λ found. IfSome found IsSmall) }
     ensures same_turns { turns_left apps.new pair.now.follower ≡ turns_left apps.old pair.now.follower }
     ensures faults { IfErr result MayFailToRead }
-    ensures same_names { names_in apps.new ≡ names_in apps.old }
-    ensures same_snapshots { snapshots_in R.snapshots apps.new ≡ snapshots_in R.snapshots apps.old }
-    ensures later { Later R.faults apps.old apps.new }
+    ensures same { AllStay R.snapshots R.faults apps.old apps.new }
     ensures failed { IsErrOf result RunFault.Recorder → SomeRose R.faults apps.old apps.new }
 {
     let tracked = match apps[pair.follower].tracked(&pair.leader_name) {
@@ -59,13 +58,11 @@ fn process_next<R: ProcessRecorder, C: Clock>(
 ) -> Result<bool, RunFault>
     requires pair { IsPairOf sys.now (names_in apps.old) pair.now }
     requires small { IsSmall notification.now }
-    ensures followed { (base : Histories) (options : Options) (s : State) (prompted : List Name) (rest : List (Name × Name)) (u : Option (List ℕ)) → Holds R.history R.capacity base options apps.old (C.readings clock.old) s
+    ensures followed { Traced (C.readings clock.old) (C.readings clock.new) (λ before after. (base : Histories) (options : Options) (s : State) (prompted : List Name) (rest : List (Name × Name)) (u : Option (List ℕ)) → Holds R.history R.capacity base options apps.old before s
         → FindsNext s pair.now (Some notification.now)
-        → FollowsOne (terms (rules_of sys.now) options) s pair.now (Holds R.history R.capacity base options apps.new (C.readings clock.new)) (HoldHistories R.history base apps.new) prompted rest u result }
+        → FollowsOne (terms (rules_of sys.now) options) s pair.now (Holds R.history R.capacity base options apps.new after) (HoldHistories R.history base apps.new) prompted rest u result) }
     ensures counted { result ≡ Ok true → turns_left apps.new pair.now.follower < turns_left apps.old pair.now.follower }
-    ensures same_names { names_in apps.new ≡ names_in apps.old }
-    ensures same_snapshots { snapshots_in R.snapshots apps.new ≡ snapshots_in R.snapshots apps.old }
-    ensures later { Later R.faults apps.old apps.new }
+    ensures same { AllStay R.snapshots R.faults apps.old apps.new }
     ensures failed { IsErrOf result RunFault.Recorder → SomeRose R.faults apps.old apps.new }
 {
     match apps[pair.follower].process(alloc, sys, &pair.leader_name, notification, clock) {
@@ -85,12 +82,10 @@ fn follow_one<R: ProcessRecorder, C: Clock>(
     clock: &mut C,
 ) -> Result<bool, RunFault>
     requires pair { IsPairOf sys.now (names_in apps.old) pair.now }
-    ensures followed { (base : Histories) (options : Options) (s : State) (prompted : List Name) (rest : List (Name × Name)) (u : Option (List ℕ)) → Holds R.history R.capacity base options apps.old (C.readings clock.old) s
-        → FollowsOne (terms (rules_of sys.now) options) s pair.now (Holds R.history R.capacity base options apps.new (C.readings clock.new)) (HoldHistories R.history base apps.new) prompted rest u result }
+    ensures followed { Traced (C.readings clock.old) (C.readings clock.new) (λ before after. (base : Histories) (options : Options) (s : State) (prompted : List Name) (rest : List (Name × Name)) (u : Option (List ℕ)) → Holds R.history R.capacity base options apps.old before s
+        → FollowsOne (terms (rules_of sys.now) options) s pair.now (Holds R.history R.capacity base options apps.new after) (HoldHistories R.history base apps.new) prompted rest u result) }
     ensures counted { result ≡ Ok true → turns_left apps.new pair.now.follower < turns_left apps.old pair.now.follower }
-    ensures same_names { names_in apps.new ≡ names_in apps.old }
-    ensures same_snapshots { snapshots_in R.snapshots apps.new ≡ snapshots_in R.snapshots apps.old }
-    ensures later { Later R.faults apps.old apps.new }
+    ensures same { AllStay R.snapshots R.faults apps.old apps.new }
     ensures failed { IsErrOf result RunFault.Recorder → SomeRose R.faults apps.old apps.new }
 {
     match next_of(apps, sys, pair) {
@@ -109,11 +104,9 @@ fn follow<R: ProcessRecorder, C: Clock>(
     clock: &mut C,
 ) -> Result<(), RunFault>
     requires pair { IsPairOf sys.now (names_in apps.old) pair.now }
-    ensures followed { (base : Histories) (options : Options) (s : State) (prompted : List Name) (rest : List (Name × Name)) (u : Option (List ℕ)) → Holds R.history R.capacity base options apps.old (C.readings clock.old) s
-        → FollowsAll (terms (rules_of sys.now) options) s pair.now (Holds R.history R.capacity base options apps.new (C.readings clock.new)) (HoldHistories R.history base apps.new) prompted rest u result }
-    ensures same_names { names_in apps.new ≡ names_in apps.old }
-    ensures same_snapshots { snapshots_in R.snapshots apps.new ≡ snapshots_in R.snapshots apps.old }
-    ensures later { Later R.faults apps.old apps.new }
+    ensures followed { Traced (C.readings clock.old) (C.readings clock.new) (λ before after. (base : Histories) (options : Options) (s : State) (prompted : List Name) (rest : List (Name × Name)) (u : Option (List ℕ)) → Holds R.history R.capacity base options apps.old before s
+        → FollowsAll (terms (rules_of sys.now) options) s pair.now (Holds R.history R.capacity base options apps.new after) (HoldHistories R.history base apps.new) prompted rest u result) }
+    ensures same { AllStay R.snapshots R.faults apps.old apps.new }
     ensures failed { IsErrOf result RunFault.Recorder → SomeRose R.faults apps.old apps.new }
 {
     let mut more = true;
@@ -136,11 +129,9 @@ fn drain_leader<R: ProcessRecorder, C: Clock>(
     clock: &mut C,
 ) -> Result<(), RunFault>
     requires pair { IsOnlyPair sys.now (names_in apps.old) pair.now }
-    ensures drained { (base : Histories) (options : Options) (s : State) (rest : List Name) (u : Option (List ℕ)) → Holds R.history R.capacity base options apps.old (C.readings clock.old) s
-        → DrainsLeader (terms (rules_of sys.now) options) s (Holds R.history R.capacity base options apps.new (C.readings clock.new)) (HoldHistories R.history base apps.new) leader.now rest u result }
-    ensures same_names { names_in apps.new ≡ names_in apps.old }
-    ensures same_snapshots { snapshots_in R.snapshots apps.new ≡ snapshots_in R.snapshots apps.old }
-    ensures later { Later R.faults apps.old apps.new }
+    ensures drained { Traced (C.readings clock.old) (C.readings clock.new) (λ before after. (base : Histories) (options : Options) (s : State) (rest : List Name) (u : Option (List ℕ)) → Holds R.history R.capacity base options apps.old before s
+        → DrainsLeader (terms (rules_of sys.now) options) s (Holds R.history R.capacity base options apps.new after) (HoldHistories R.history base apps.new) leader.now rest u result) }
+    ensures same { AllStay R.snapshots R.faults apps.old apps.new }
     ensures failed { IsErrOf result RunFault.Recorder → SomeRose R.faults apps.old apps.new }
 {
     match pair {
@@ -165,11 +156,9 @@ pub fn drain<R: ProcessRecorder, C: Clock>(
     clock: &mut C,
 ) -> Result<(), RunFault>
     requires pair { IsOnlyPair sys.now (names_in apps.old) pair.now }
-    ensures drained { (base : Histories) (options : Options) (s : State) (u : Option (List ℕ)) → Holds R.history R.capacity base options apps.old (C.readings clock.old) s
-        → Drains (terms (rules_of sys.now) options) s (Holds R.history R.capacity base options apps.new (C.readings clock.new)) (HoldHistories R.history base apps.new) prompted.now u result }
-    ensures same_names { names_in apps.new ≡ names_in apps.old }
-    ensures same_snapshots { snapshots_in R.snapshots apps.new ≡ snapshots_in R.snapshots apps.old }
-    ensures later { Later R.faults apps.old apps.new }
+    ensures drained { Traced (C.readings clock.old) (C.readings clock.new) (λ before after. (base : Histories) (options : Options) (s : State) (u : Option (List ℕ)) → Holds R.history R.capacity base options apps.old before s
+        → Drains (terms (rules_of sys.now) options) s (Holds R.history R.capacity base options apps.new after) (HoldHistories R.history base apps.new) prompted.now u result) }
+    ensures same { AllStay R.snapshots R.faults apps.old apps.new }
     ensures failed { IsErrOf result RunFault.Recorder → SomeRose R.faults apps.old apps.new }
 {
     for leader in prompted {

@@ -11,6 +11,3 @@ mod faults;
 pub use application::{Application, Processed, convert};
 pub use draining::{Pair, drain};
 pub use faults::RunFault;
-
-#[cfg(test)]
-mod tests;

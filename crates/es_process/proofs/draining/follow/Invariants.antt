@@ -1,22 +1,21 @@
-use Rattle.std.proofs.Common.{◌≡◌, ◌+◌, ℕ, List, Option, Ok, if◌then◌else◌}
+use Rattle.std.proofs.Common.{◌+◌, ℕ, List, Option, Ok, if◌then◌else◌}
 use Rattle.es_model.specs.History.{Histories}
 use Rattle.es_model.specs.Values.{Name}
 use Rattle.es_process.specs.Answer.{Options}
 use Rattle.es_process.specs.Drains.{FollowsOne, turns_left}
-use Rattle.es_process.specs.Standing.{State, Holds, HoldHistories, Later, names_in, snapshots_in}
+use Rattle.es_process.specs.Standing.{State, Holds, HoldHistories, AllStay}
 use Rattle.es_process.specs.SystemRules.{rules_of}
 use Rattle.es_process.specs.Terms.{terms}
+use Rattle.es_process.specs.Traced.{Traced}
 use Rattle.es_process.proofs.draining.follow.Given as goal
 
 abbrev pub invariant-loop-more : goal.invariant-loop-more
 invariant-loop-more g l = record {
-  followed : (base : Histories) (options : Options) (s : State) (prompted : List Name) (rest : List (Name × Name)) (u : Option (List ℕ))
-      → Holds g.R.AggregateRecorder.history g.R.AggregateRecorder.capacity base options l.initial.apps (g.C.Clock.readings l.initial.clock) s
-      → FollowsOne (terms (rules_of l.fn.sys) options) s l.fn.pair (Holds g.R.AggregateRecorder.history g.R.AggregateRecorder.capacity base options l.apps (g.C.Clock.readings l.clock))
-      (HoldHistories g.R.AggregateRecorder.history base l.apps) prompted rest u (Ok l.more);
-  same_names : names_in l.apps ≡ names_in l.initial.apps;
-  same_snapshots : snapshots_in g.R.AggregateRecorder.snapshots l.apps ≡ snapshots_in g.R.AggregateRecorder.snapshots l.initial.apps;
-  later : Later g.R.AggregateRecorder.faults l.initial.apps l.apps;
+  followed : Traced (g.C.Clock.readings l.initial.clock) (g.C.Clock.readings l.clock) (λ before after. (base : Histories) (options : Options) (s : State) (prompted : List Name) (rest : List (Name × Name)) (u : Option (List ℕ))
+      → Holds g.R.AggregateRecorder.history g.R.AggregateRecorder.capacity base options l.initial.apps before s
+      → FollowsOne (terms (rules_of l.fn.sys) options) s l.fn.pair (Holds g.R.AggregateRecorder.history g.R.AggregateRecorder.capacity base options l.apps after)
+      (HoldHistories g.R.AggregateRecorder.history base l.apps) prompted rest u (Ok l.more));
+  same : AllStay g.R.AggregateRecorder.snapshots g.R.AggregateRecorder.faults l.initial.apps l.apps;
 }
 
 abbrev pub decreases-loop-more : goal.decreases-loop-more

@@ -1,21 +1,40 @@
 use Rattle.std.proofs.Common.{◌∷◌}
 use Rattle.es_process.specs.Terms.{terms}
 use Rattle.es_process.specs.SystemRules.{rules_of}
-use Rattle.es_process.proofs.HoldsLemmas.{held-histories}
+use Rattle.es_process.proofs.HoldsLemmas.{held-histories, all-then, rose-then}
 use Rattle.es_process.proofs.PairLemmas.{none_left, reading_failed}
 use Rattle.es_process.proofs.draining.follow_one.Goals as goal
 
 pub returns-in-Ok-None-clause-followed : goal.returns-in-Ok-None-clause-followed
-returns-in-Ok-None-clause-followed g c = λ base options s prompted rest u held.
-    none_left (terms (rules_of c.args.sys.now) options) s c.args.pair.now c.requires.pair.pairs c.requires.pair.placed.apart prompted rest _ u
-    (rw c.in-Ok-None.field-0-is at ((c.in-Ok-None.ensures {u = tt}).found base options _ s held)) (c.next_of.ensures.same base options _ s held)
+returns-in-Ok-None-clause-followed g c = λ after may. (
+  after,
+  may,
+  λ base options s prompted rest u held.
+      none_left (terms (rules_of c.args.sys.now) options) s c.args.pair.now c.requires.pair.pairs c.requires.pair.placed.apart prompted rest _ u
+      (rw c.in-Ok-None.field-0-is at ((c.in-Ok-None.ensures {u = tt}).found base options _ s held)) (c.next_of.ensures.holds base options _ s held),
+)
 
 pub returns-in-Err-clause-followed : goal.returns-in-Err-clause-followed
-returns-in-Err-clause-followed g c = λ base options s prompted rest u held.
-    let still = c.next_of.ensures.same base options _ s held in
-    reading_failed (terms (rules_of c.args.sys.now) options) s prompted ((c.args.pair.now.leader_name, c.args.pair.now.follower_name) ∷ rest) c.in-Err.fault _ u (c.in-Err.ensures {u = tt}).faults
-    (held-histories _ _ base options _ _ s still)
+returns-in-Err-clause-followed g c = λ after may. (
+  after,
+  may,
+  λ base options s prompted rest u held.
+      let still = c.next_of.ensures.holds base options _ s held in
+      reading_failed (terms (rules_of c.args.sys.now) options) s prompted ((c.args.pair.now.leader_name, c.args.pair.now.follower_name) ∷ rest) c.in-Err.fault _ u (c.in-Err.ensures {u = tt}).faults
+      (held-histories _ _ base options _ _ s still),
+)
 
 pub returns-in-Ok-Some-clause-followed : goal.returns-in-Ok-Some-clause-followed
-returns-in-Ok-Some-clause-followed g c = λ base options s prompted rest u held.
-    c.process_next.ensures.followed base options s prompted rest u (c.next_of.ensures.same base options _ s held) (rw c.in-Ok-Some.field-0-is at ((c.in-Ok-Some.ensures {u = tt}).found base options _ s held))
+returns-in-Ok-Some-clause-followed g c = λ after may.
+    let x = c.process_next.ensures.followed after may in (
+      x.0,
+      x.1,
+      λ base options s prompted rest u held.
+          x.2 base options s prompted rest u (c.next_of.ensures.holds base options _ s held) (rw c.in-Ok-Some.field-0-is at ((c.in-Ok-Some.ensures {u = tt}).found base options _ s held)),
+    )
+
+pub returns-in-Ok-Some-clause-same : goal.returns-in-Ok-Some-clause-same
+returns-in-Ok-Some-clause-same g c = all-then c.next_of.ensures.same c.process_next.ensures.same
+
+pub returns-in-Ok-Some-clause-failed : goal.returns-in-Ok-Some-clause-failed
+returns-in-Ok-Some-clause-failed g c = λ is. rose-then g.R.AggregateRecorder.faults _ _ _ c.next_of.ensures.same.later (c.process_next.ensures.failed is)

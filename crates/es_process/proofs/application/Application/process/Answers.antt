@@ -1,10 +1,27 @@
-use Rattle.std.proofs.Common.{arith, ◌≡◌, ◌∙◌, subst, IfSome}
+use Rattle.std.proofs.Common.{arith, ◌≡◌, ◌∙◌, ◌+◌, subst, IfSome}
+use Rattle.es_process.proofs.TracedLemmas.{faulted}
 use Rattle.es_model.specs.Tracking.{tracked_in}
 use Rattle.es_process.proofs.application.Application.process.Goals as goal
 
 pub returns-in-Ok-clause-processed : goal.returns-in-Ok-clause-processed
-returns-in-Ok-clause-processed g c = λ logs h r there told reading.
-    let tracked = subst (λ o. IfSome o (λ x. c.in_ok-tracked.tracked ≡ tracked_in x c.args.leader.now)) told (c.in_ok-tracked.ensures {u = tt}).value in (
-      omega (arith, tracked, c.if-notification-tracked.false, c.if-notification-tracked-2.false),
-      rw c.max_tracking_id.ensures.same_capacity at ((c.in-Ok.ensures {u = tt}).taken logs h r there (c.max_tracking_id.ensures.same_history ∙ told) reading),
+returns-in-Ok-clause-processed g c = λ after may.
+    let x = (c.in-Ok.ensures {u = tt}).taken after may in (
+      x.0,
+      x.1,
+      λ logs h r there told reading.
+          let tracked = subst (λ o. IfSome o (λ x. c.in_ok-tracked.tracked ≡ tracked_in x c.args.leader.now)) told (c.in_ok-tracked.ensures {u = tt}).value in (
+            omega (arith, tracked, c.if-notification-tracked.false, c.if-notification-tracked-2.false),
+            rw c.max_tracking_id.ensures.same.capacity at (x.2 logs h r there (c.max_tracking_id.ensures.same.history ∙ told) reading),
+          ),
+    )
+
+pub returns-in-Err-clause-processed : goal.returns-in-Err-clause-processed
+returns-in-Err-clause-processed g c = λ after may.
+    let x = (c.in-Err.ensures {u = tt}).taken after may in (
+      x.0,
+      x.1,
+      λ logs h r there told reading.
+          let tracked = subst (λ o. IfSome o (λ x. c.in_ok-tracked.tracked ≡ tracked_in x c.args.leader.now)) told (c.in_ok-tracked.ensures {u = tt}).value in
+          faulted (c.args.notification.now.id ≡ tracked_in h c.args.leader.now + 1) _ h _ c.in-Err.fault (omega (arith, tracked, c.if-notification-tracked.false, c.if-notification-tracked-2.false))
+          (rw c.max_tracking_id.ensures.same.capacity at (x.2 logs h r there (c.max_tracking_id.ensures.same.history ∙ told) reading)),
     )
