@@ -17,11 +17,11 @@ use Rattle.es_model.specs.declared.domain_event.DomainEvent.{DomainEvent}
 use Rattle.es_model.specs.declared.event.StoredEvent.{StoredEvent}
 use Rattle.es_transcode.specs.Decoded.{record_of}
 use Rattle.es_transcode.proofs.DecodedLemmas.{record-of-decoded, decoded-of-record}
-use Rattle.es_mapper.specs.Mapping.{version_of, class_value, IsVersion, HasHead, fields_of, IsEvent, IsDeclared, IsMapped}
+use Rattle.es_mapper.specs.Mapping.{version_of, class_value, IsVersion, HasHead, fields_of, IsEvent, IsMapped}
 use Rattle.es_mapper.specs.Mapped.{at_least_one, version_in, moment_in, is_class_in, event_with, event_at, event_in_state, event_by, event_of, Gives}
 use Rattle.es_mapper.specs.declared.fault.MapFault.{MapFault}
 use Rattle.es_mapper.specs.declared.fault.MapFault.TheVariants as fault
-use Rattle.es_mapper.proofs.MappingLemmas.{IsStored, stored-event, mapped-none}
+use Rattle.es_mapper.proofs.MappingLemmas.{mapped-none}
 
 same : (t : List ℕ) → bytes_eq t t ≡ true
 same t = (bytes_eq-Decides t t).1 refl
@@ -199,7 +199,3 @@ module _ (sys : System) (s : StoredEvent) where
   mapped-gives (Err fault.Fields) is = no-event-of (mapped-none sys s (Err fault.Fields) is (λ h. cc))
   mapped-gives (Err (fault.Newer stored declared)) is = no-event-of (mapped-none sys s (Err (fault.Newer stored declared)) is (λ h. cc))
   mapped-gives (Err fault.NoMemory) is = tt
-
--- a declared event is given again of what it is stored as
-pub stored-again : (sys : System) (e : DomainEvent) (s : StoredEvent) → IsDeclared sys e → IsStored sys e s → event_of sys s ≡ Some e
-stored-again sys e s declared is = event-of sys s e (stored-event sys e s declared is)

@@ -1,11 +1,8 @@
 -- Laws of the canonical text as a function.
-use Rattle.std.proofs.Common.{◌≡◌, ◌∙◌, ℕ, List, [], ◌∷◌, codes, All, inl, refl, sym, ap}
-use Rattle.std.proofs.lemmas.List.Elements.{All-head, All-tail}
-use Rattle.uuid.specs.Text.{lower}
-use Rattle.uuid.proofs.RoundTrips.{parses_simple}
+use Rattle.std.proofs.Common.{◌≡◌, ◌∙◌, ℕ, List, [], ◌∷◌, codes, refl, ap}
 use Rattle.serde_json.specs.Data.{Data, object, array, Items, no_items, item, Members, no_members, member}
 use Rattle.serde_json.specs.Written.{compact_text}
-use Rattle.es_model.specs.Values.{Record, IsValid, IsValidValue}
+use Rattle.es_model.specs.Values.{Record}
 use Rattle.es_model.specs.declared.value.Atom.{Atom}
 use Rattle.es_model.specs.declared.value.Atom.TheVariants as atom
 use Rattle.es_model.specs.declared.value.Value.{Value}
@@ -13,7 +10,7 @@ use Rattle.es_model.specs.declared.value.Value.TheVariants as value
 use Rattle.es_transcode.specs.Texts.{HasText}
 use Rattle.es_transcode.specs.RecordText.{tagged, IsAtomTree, AreAtomTrees, IsValueTree, AreMembers, IsRecordTree, IsRecordText}
 use Rattle.es_transcode.specs.CanonicalText.{atom_text, atom_tree, item_trees, value_tree, member_trees, record_tree, record_text}
-use Rattle.es_transcode.proofs.MomentLemmas.{only-moment_text, moment_text-is}
+use Rattle.es_transcode.proofs.MomentLemmas.{only-moment_text}
 
 -- there is no other text, and no other tree
 
@@ -57,34 +54,3 @@ only-record_tree r d is = is.2 ∙ ap object (only-member_trees r is.0 is.1)
 pub only-record_text : (r : Record) (text : List ℕ) → IsRecordText r text → text ≡ record_text r
 unfolding record_text
 only-record_text r text is = is.3 ∙ ap compact_text (only-record_tree r is.0 is.2)
-
--- and valid values have theirs
-
-pub atom_tree-is : (a : Atom) → IsValid a → IsAtomTree a (atom_tree a)
-atom_tree-is atom.Null valid = refl
-atom_tree-is (atom.Bool truth) valid = refl
-atom_tree-is (atom.Int z) valid = (valid, refl)
-atom_tree-is (atom.Text text) valid = refl
-atom_tree-is (atom.Uuid id) valid = (atom_text (atom.Uuid id), (refl, sym (parses_simple lower id (inl refl) valid.0 valid.1)), refl)
-atom_tree-is (atom.Moment m) valid = (atom_text (atom.Moment m), (valid, moment_text-is m valid.0 valid.1), refl)
-atom_tree-is (atom.Decimal n) valid = (atom_text (atom.Decimal n), (valid, refl), refl)
-
-item_trees-are : (items : List Atom) → All IsValid items → AreAtomTrees items (item_trees items)
-item_trees-are [] valid = tt
-item_trees-are (a ∷ items) valid = (atom_tree-is a (All-head IsValid a items valid), item_trees-are items (All-tail IsValid a items valid))
-
-pub value_tree-is : (v : Value) → IsValidValue v → IsValueTree v (value_tree v)
-value_tree-is (value.One a) valid = atom_tree-is a valid
-value_tree-is (value.List items) valid = (item_trees items, item_trees-are items valid, refl)
-
--- each value of a record is valid
-abbrev pub AreValidValues : Record → Type 0
-AreValidValues [] = Unit {0}
-AreValidValues (x ∷ xs) = IsValidValue x.1 × AreValidValues xs
-
-member_trees-are : (r : Record) → AreValidValues r → AreMembers r (member_trees r)
-member_trees-are [] valid = tt
-member_trees-are (x ∷ xs) valid = (refl, value_tree-is x.1 valid.0, member_trees-are xs valid.1)
-
-pub record_tree-is : (r : Record) → AreValidValues r → IsRecordTree r (record_tree r)
-record_tree-is r valid = (member_trees r, member_trees-are r valid, refl)

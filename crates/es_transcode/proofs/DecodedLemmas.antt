@@ -16,13 +16,12 @@ use Rattle.es_model.specs.declared.value.Atom.TheVariants as atom
 use Rattle.es_model.specs.declared.value.Value.{Value}
 use Rattle.es_model.specs.declared.value.Value.TheVariants as value
 use Rattle.es_transcode.specs.declared.fault.DecodeFault.{DecodeFault}
-use Rattle.es_transcode.specs.declared.fault.DecodeFault.TheVariants as fault
 use Rattle.es_transcode.specs.Decoded.{int_in, id_at, id_in, atom_named, tagged_in, atom_in, with_first, atoms_in, value_in, members_in, record_in, tree_in, record_of}
 use Rattle.es_transcode.specs.Decoding.{pair, IsRecordFault, IsDecoded}
 use Rattle.es_transcode.specs.RecordText.{tagged, IsTagged, IsAtomTree, AreAtomTrees, IsValueTree, AreMembers, IsRecordTree, IsTreeOf}
 use Rattle.es_transcode.specs.Spelled.{moment_in, decimal_in}
 use Rattle.es_transcode.specs.Texts.{HasText}
-use Rattle.es_transcode.proofs.FaultLemmas.{no-record-fault, no-fault}
+use Rattle.es_transcode.proofs.FaultLemmas.{no-record-fault}
 use Rattle.es_transcode.proofs.OnlyLemmas.{no-array}
 use Rattle.es_transcode.proofs.SpelledLemmas.{moment-spelled, moment-has, decimal-spelled, decimal-has}
 
@@ -281,6 +280,3 @@ pub decoded-of-record : (bytes : List ℕ) (r : Record) → record_of bytes ≡ 
 decoded-of-record bytes r is =
     let found = from-tree (tree_in bytes) r is in
     (found.0, found-tree bytes found.0 found.1, found.2)
-
-pub no-record-of : (bytes : List ℕ) (f : DecodeFault) → f ≢ fault.NoMemory → IsDecoded bytes (Err f) → record_of bytes ≡ None
-no-record-of bytes f real bad = nothing (record_of bytes) (λ r is. no-fault bytes r f (decoded-of-record bytes r is) real bad)

@@ -9,7 +9,7 @@ use Rattle.jiff_core.proofs.CalendarLemmas.{day_count-epoch, day_count-end, days
 use Rattle.jiff_core.proofs.DateLemmas.{epoch_day_injective}
 use Rattle.es_transcode.specs.declared.civil.Civil.{Civil}
 use Rattle.es_transcode.specs.CivilText.{IsCivil, IsTime, micros_of, micros_of_day, IsMomentText, iso_text}
-use Rattle.es_transcode.specs.MomentText.{Date, date_at, at_time, civil_at, moment_text}
+use Rattle.es_transcode.specs.MomentText.{Date, date_at, civil_at, moment_text}
 
 -- the day that comes so many days after the first of 1970
 record IsDay (n : ℕ) (d : Date) : Type 0 where
@@ -79,12 +79,6 @@ only-date n d is y m k civil count =
 
 -- the time of day
 
-time : (d : Date) (n : ℕ) → n < 86400000000 → IsTime (at_time d n)
-time d n few = record { hour = omega arith; minute = omega arith; second = omega arith; micros = omega arith }
-
-time-is : (d : Date) (n : ℕ) → micros_of_day (at_time d n) ≡ n
-time-is d n = omega arith
-
 only-hour : (h m s u n : ℕ) → m < 60 → s < 60 → u < 1000000 → ((h * 60 + m) * 60 + s) * 1000000 + u ≡ n → h ≡ n / 3600000000
 only-hour h m s u n a b c is = omega arith
 
@@ -131,19 +125,3 @@ only-civil (pos k) low c civil is =
 pub only-moment_text : (m : ℤ) (text : List ℕ) → pos 0 ≤ℤ m → IsMomentText m text → text ≡ moment_text m
 unfolding moment_text
 only-moment_text m text low is = is.3 ∙ ap iso_text (only-civil m low is.0 is.1 is.2)
-
-pub civil_at-is : (m : ℤ) → pos 0 ≤ℤ m → m ≤ℤ pos 253402300799999999 → IsCivil (civil_at m) × (micros_of (civil_at m) ≡ m)
-civil_at-is (negsuc k) low high = absurd (omega (arith, ints, low))
-civil_at-is (pos k) low high =
-    let n = k / 86400000000 in
-    let r = k % 86400000000 in
-    let d = date_at n in
-    let is = counted n in
-    let few : n ≤ 2932896 = omega (arith, ints, high) in
-    let days : days_from_civil (pos d.year) d.month d.day ≡ pos n = omega (arith, signed_arith, days_from_civil-day_count, is.count) in
-    let whole : n * 86400000000 + r ≡ k = omega arith in
-    (record { date = date n d is few; time = time d r (omega arith) }, (λ i. days i *ℤ pos 86400000000 +ℤ pos (time-is d r i)) ∙ ap pos whole)
-
-pub moment_text-is : (m : ℤ) → pos 0 ≤ℤ m → m ≤ℤ pos 253402300799999999 → IsMomentText m (moment_text m)
-unfolding moment_text
-moment_text-is m low high = let is = civil_at-is m low high in (civil_at m, is.0, is.1, refl)
