@@ -1,10 +1,8 @@
 -- The loop over the lines of a run, and what it leaves where it stops.
-use Rattle.std.proofs.Common.{◌≡◌, inl, inr, ◌+◌, ◌++◌, ℕ, List, [], ◌∷◌, Option, Some, None, Result, Ok, Err, refl, sym, ap, ◌∙◌, subst, append_assoc, length-append, arith}
+use Rattle.std.proofs.Common.{◌≡◌, inl, inr, ◌+◌, ◌++◌, ℕ, List, [], ◌∷◌, Option, Result, Ok, Err, refl, sym, ap, ◌∙◌, subst, append_assoc, length-append, arith}
 use Rattle.std.specs.Io.KnownBytes.{Appends}
 use Rattle.es_model.specs.History.{Histories}
-use Rattle.es_model.specs.Lines.{Line, text, long, over}
-use Rattle.es_io.specs.Next.{IsNext}
-use Rattle.es_io.specs.declared.lines.Step.TheVariants as step
+use Rattle.es_model.specs.Lines.{Line, over}
 use Rattle.es_lines.specs.declared.ends.End.{End}
 use Rattle.es_lines.specs.declared.ends.End.TheVariants as end
 use Rattle.es_process.specs.declared.faults.RunFault.{RunFault}
@@ -17,96 +15,63 @@ use Rattle.es_process.proofs.SingleThreadLemmas.{Goes-then, Goes-end, written_by
 use Rattle.es_process.proofs.StandingLemmas.{appends_nothing, appends_then, Cut-none, came_cut, came_faulted}
 use Rattle.es_single.specs.declared.serve.Stop.{Stop}
 use Rattle.es_single.specs.declared.serve.Stop.TheVariants as stop
-use Rattle.es_single.specs.Serves.{at_line, past_it, AnswersLine, FirstOf, TakesTurn, NoneOver, whole, served, Answered, Begun, Serves}
+use Rattle.es_single.specs.Serves.{at_line, AnswersLine, TakesTurn, NoneOver, whole, served, Answered, Begun, Serves}
 
 module _ (t : Terms) where
   -- a line that was taken, and what answering it left
-  turned : (s : State) (H : State → Type 0) (ls rest : List Line) (line : Line) (coming : Option (List Line)) (L : Histories → Type 0) (u w : Option (List ℕ)) (result : Result (Unit {0}) Stop)
-      → (line ≡ over → ⊥) → ls ≡ line ∷ rest → coming ≡ Some rest → AnswersLine t s H line L u w result → TakesTurn t s H ls coming L u w result
-  turned s H ls rest line coming L u w (Ok x) not parts is so = record { line = line; rest = rest; parts = parts; of_it = (is, not, so) }
-  turned s H ls rest line coming L u w (Err (stop.Fault f)) not parts is so = inr (record { line = line; rest = rest; parts = parts; of_it = so })
-  turned s H ls rest line coming L u w (Err stop.Sink) not parts is so = record { line = line; rest = rest; parts = parts; of_it = so }
-  turned s H ls rest line coming L u w (Err stop.End) not parts is so = absurd so
-  turned s H ls rest line coming L u w (Err stop.Over) not parts is so = absurd so
-  turned s H ls rest line coming L u w (Err stop.Read) not parts is so = absurd so
-
-  line_left : (s : State) (H : State → Type 0) (ls : List Line) (x : List ℕ) (L : Histories → Type 0) (u w : Option (List ℕ)) (result : Result (Unit {0}) Stop) → AnswersLine t s H (text x) L u w result
-      → (l : Option (List Line)) → IsNext (Some ls) l (step.Line x) → TakesTurn t s H ls l L u w result
-  line_left s H ls x L u w result so None n = absurd n
-  line_left s H ls x L u w result so (Some rest) n = turned s H ls rest (text x) (Some rest) L u w result (λ is. absurd (cc is)) n refl so
-
-  pub line_turned : (s : State) (H : State → Type 0) (ls : List Line) (lines coming : Option (List Line)) (x : List ℕ) (L : Histories → Type 0) (u w : Option (List ℕ)) (result : Result (Unit {0}) Stop)
-      → lines ≡ Some ls → IsNext lines coming (step.Line x) → AnswersLine t s H (text x) L u w result → TakesTurn t s H ls coming L u w result
-  line_turned s H ls lines coming x L u w result told next so = line_left s H ls x L u w result so coming (subst (λ y. IsNext y coming (step.Line x)) told next)
-
-  long_left : (s : State) (H : State → Type 0) (ls : List Line) (L : Histories → Type 0) (u w : Option (List ℕ)) (result : Result (Unit {0}) Stop) → AnswersLine t s H long L u w result
-      → (l : Option (List Line)) → IsNext (Some ls) l step.Long → TakesTurn t s H ls l L u w result
-  long_left s H ls L u w result so None n = absurd n
-  long_left s H ls L u w result so (Some rest) n = turned s H ls rest long (Some rest) L u w result (λ is. absurd (cc is)) n refl so
-
-  pub long_turned : (s : State) (H : State → Type 0) (ls : List Line) (lines coming : Option (List Line)) (L : Histories → Type 0) (u w : Option (List ℕ)) (result : Result (Unit {0}) Stop)
-      → lines ≡ Some ls → IsNext lines coming step.Long → AnswersLine t s H long L u w result → TakesTurn t s H ls coming L u w result
-  long_turned s H ls lines coming L u w result told next so = long_left s H ls L u w result so coming (subst (λ y. IsNext y coming step.Long) told next)
-
-end_left : (ls : List Line) (l : Option (List Line)) → IsNext (Some ls) l step.End → ls ≡ []
-end_left ls None n = absurd n
-end_left ls (Some rest) n = n.0
-
-pub end_is : (ls : List Line) (lines coming : Option (List Line)) → lines ≡ Some ls → IsNext lines coming step.End → ls ≡ []
-end_is ls lines coming told next = end_left ls coming (subst (λ x. IsNext x coming step.End) told next)
-
-over_left : (ls : List Line) (l : Option (List Line)) → IsNext (Some ls) l step.Over → ls ≡ over ∷ []
-over_left ls None n = absurd n
-over_left ls (Some rest) n = n.0
-
-pub over_is : (ls : List Line) (lines coming : Option (List Line)) → lines ≡ Some ls → IsNext lines coming step.Over → ls ≡ over ∷ []
-over_is ls lines coming told next = over_left ls coming (subst (λ x. IsNext x coming step.Over) told next)
+  pub turned : (s : State) (H : State → Type 0) (ls rest : List Line) (line : Line) (L : Histories → Type 0) (u w : Option (List ℕ)) (result : Result (Unit {0}) Stop) → (line ≡ over → ⊥) → ls ≡ line ∷ rest → AnswersLine t s H line L u w result
+      → TakesTurn t s H ls rest L u w result
+  turned s H ls rest line L u w (Ok x) not parts so = (line, parts, not, so)
+  turned s H ls rest line L u w (Err (stop.Fault f)) not parts so = inr (record { line = line; rest = rest; parts = parts; of_it = so })
+  turned s H ls rest line L u w (Err stop.Sink) not parts so = record { line = line; rest = rest; parts = parts; of_it = so }
+  turned s H ls rest line L u w (Err stop.End) not parts so = absurd so
+  turned s H ls rest line L u w (Err stop.Over) not parts so = absurd so
+  turned s H ls rest line L u w (Err stop.Read) not parts so = absurd so
 
 pub none_over : (lines : List Line) (line : Line) → NoneOver lines → (line ≡ over → ⊥) → NoneOver (lines ++ line ∷ [])
 none_over [] line none not = (not, tt)
 none_over (l ∷ lines) line none not = (none.0, none_over lines line none.1 not)
 
 module _ (t : Terms) (s : State) where
-  abbrev pub begun : (H : State → Type 0) (L : Histories → Type 0) (u : Option (List ℕ)) (ls : List Line) (y : Unit {0}) (x : Drains t s H L (leaders_of t.rules.pairs) u (Ok y)) → Begun t s x.state ls u u
-  begun H L u ls y x = record { steps = x.steps; goes = λ more openings. x.goes (record { openings = openings; lines = more; answered = 0 }); written = x.written }
+  abbrev pub begun : (H : State → Type 0) (L : Histories → Type 0) (u : Option (List ℕ)) (y : Unit {0}) (x : Drains t s H L (leaders_of t.rules.pairs) u (Ok y)) → Begun t s x.state u u
+  begun H L u y x = record { steps = x.steps; goes = λ more openings. x.goes (record { openings = openings; lines = more; answered = 0 }); written = x.written }
 
-  abbrev pub none_answered : (n : State) (H : State → Type 0) (ls : List Line) (u v : Option (List ℕ)) → Begun t s n ls u v → H n → Answered t s H ls 0 u v
-  none_answered n H ls u v x held = record { taken = []; rest = ls; parts = refl; counted = refl; within = tt; state = n; steps = x.steps; held = held; goes = λ more openings. x.goes more openings; written = x.written }
+  abbrev pub none_answered : (n : State) (H : State → Type 0) (ls : List Line) (u v : Option (List ℕ)) → Begun t s n u v → H n → Answered t s H ls ls 0 u v
+  none_answered n H ls u v x held = record { taken = []; parts = refl; counted = refl; within = tt; state = n; steps = x.steps; held = held; goes = λ more openings. x.goes more openings; written = x.written }
 
-  module _ (H : State → Type 0) (ls : List Line) (count : ℕ) (u v : Option (List ℕ)) (x : Answered t s H ls count u v) where
-    abbrev pub one_answered : (K : State → Type 0) (w : Option (List ℕ)) (coming : Option (List Line)) (y : FirstOf (λ line rest. (coming ≡ Some rest) × (line ≡ over → ⊥) × Came t (at_line x.state line) K v w past_it) x.rest) → Answered t s K ls (count + 1) u w
-    one_answered K w coming y = record {
-      taken = x.taken ++ y.line ∷ [];
-      rest = y.rest;
-      parts = x.parts ∙ ap (λ (l : List Line). x.taken ++ l) y.parts ∙ sym (append_assoc x.taken (y.line ∷ []) y.rest);
-      counted = omega (arith, x.counted, length-append x.taken (y.line ∷ []));
-      within = none_over x.taken y.line x.within y.of_it.1;
-      state = y.of_it.2.state;
-      steps = x.steps ++ y.of_it.2.steps;
-      held = y.of_it.2.held;
+  module _ (H : State → Type 0) (ls rest : List Line) (count : ℕ) (u v : Option (List ℕ)) (x : Answered t s H ls rest count u v) where
+    abbrev pub one_answered : (K : State → Type 0) (w : Option (List ℕ)) (L : Histories → Type 0) (coming : List Line) (y : TakesTurn t x.state K rest coming L v w (Ok tt)) → Answered t s K ls coming (count + 1) u w
+    one_answered K w L coming y = record {
+      taken = x.taken ++ y.0 ∷ [];
+      parts = x.parts ∙ ap (λ (l : List Line). x.taken ++ l) y.1 ∙ sym (append_assoc x.taken (y.0 ∷ []) coming);
+      counted = omega (arith, x.counted, length-append x.taken (y.0 ∷ []));
+      within = none_over x.taken y.0 x.within y.2;
+      state = y.3.state;
+      steps = x.steps ++ y.3.steps;
+      held = y.3.held;
       goes = λ more openings.
-          subst (λ l. Goes t.rules t.options openings (stand s (leaders_of t.rules.pairs) [] l 0) (stand y.of_it.2.state [] [] more (count + 1)) (x.steps ++ y.of_it.2.steps)) (sym (append_assoc x.taken (y.line ∷ []) more))
-          (Goes-then t.rules t.options openings (stand s (leaders_of t.rules.pairs) [] (x.taken ++ y.line ∷ more) 0) (stand x.state [] [] (y.line ∷ more) count) (stand y.of_it.2.state [] [] more (count + 1)) x.steps y.of_it.2.steps
-          (x.goes (y.line ∷ more) openings) (y.of_it.2.goes (record { openings = openings; lines = more; answered = count })));
-      written = subst (Appends u w) (sym (written_by-append x.steps y.of_it.2.steps)) (appends_then u v w (written_by x.steps) (written_by y.of_it.2.steps) x.written y.of_it.2.written);
+          subst (λ l. Goes t.rules t.options openings (stand s (leaders_of t.rules.pairs) [] l 0) (stand y.3.state [] [] more (count + 1)) (x.steps ++ y.3.steps)) (sym (append_assoc x.taken (y.0 ∷ []) more))
+          (Goes-then t.rules t.options openings (stand s (leaders_of t.rules.pairs) [] (x.taken ++ y.0 ∷ more) 0) (stand x.state [] [] (y.0 ∷ more) count) (stand y.3.state [] [] more (count + 1)) x.steps y.3.steps (x.goes (y.0 ∷ more) openings)
+          (y.3.goes (record { openings = openings; lines = more; answered = count })));
+      written = subst (Appends u w) (sym (written_by-append x.steps y.3.steps)) (appends_then u v w (written_by x.steps) (written_by y.3.steps) x.written y.3.written);
     }
 
     -- the run so far, over all lines
-    abbrev pub came_far : (rest : List Line) → x.rest ≡ rest → Came t (whole t s ls) (λ n. Unit {0}) u v (λ n. served rest count n)
-    came_far rest is = record {
+    abbrev pub came_far : (others : List Line) → rest ≡ others → Came t (whole t s ls) (λ n. Unit {0}) u v (λ n. served others count n)
+    came_far others is = record {
       state = x.state;
       steps = x.steps;
       held = tt;
-      goes = λ σ. subst (λ l. Goes t.rules t.options σ.openings (stand s (leaders_of t.rules.pairs) [] l 0) (stand x.state [] [] rest count) x.steps) (sym (x.parts ∙ ap (λ (l : List Line). x.taken ++ l) is)) (x.goes rest σ.openings);
+      goes = λ σ. subst (λ l. Goes t.rules t.options σ.openings (stand s (leaders_of t.rules.pairs) [] l 0) (stand x.state [] [] others count) x.steps) (sym (x.parts ∙ ap (λ (l : List Line). x.taken ++ l) is)) (x.goes others σ.openings);
       written = x.written;
     }
 
-    pub all_answered : (K : State → Type 0) (w : Option (List ℕ)) → x.rest ≡ [] → K x.state → w ≡ v → Came t (whole t s ls) K u w (λ n. served [] count n)
+    pub all_answered : (K : State → Type 0) (w : Option (List ℕ)) → rest ≡ [] → K x.state → w ≡ v → Came t (whole t s ls) K u w (λ n. served [] count n)
     all_answered K w is held still =
         let far = came_far [] is in
         record { state = x.state; steps = x.steps; held = held; goes = far.goes; written = subst (λ y. Appends u y (written_by x.steps)) (sym still) x.written }
 
-    pub is_over : (L : Histories → Type 0) (w : Option (List ℕ)) → x.rest ≡ over ∷ [] → L x.state.histories → w ≡ v → Ended t (whole t s ls) L u w end.Over
+    pub is_over : (L : Histories → Type 0) (w : Option (List ℕ)) → rest ≡ over ∷ [] → L x.state.histories → w ≡ v → Ended t (whole t s ls) L u w end.Over
     is_over L w is held still =
         let far = came_far (over ∷ []) is in
         record {
@@ -118,10 +83,9 @@ module _ (t : Terms) (s : State) where
           written = subst (λ y. Appends u y (written_by x.steps)) (sym still) x.written;
         }
 
-    pub was_reading : (K : State → Type 0) (w : Option (List ℕ)) → K x.state → w ≡ v → Answered t s K ls count u w
+    pub was_reading : (K : State → Type 0) (w : Option (List ℕ)) → K x.state → w ≡ v → Answered t s K ls rest count u w
     was_reading K w held still = record {
       taken = x.taken;
-      rest = x.rest;
       parts = x.parts;
       counted = x.counted;
       within = x.within;
@@ -133,8 +97,8 @@ module _ (t : Terms) (s : State) where
     }
 
     -- nothing more was done
-    idle_cut : (L : Histories → Type 0) (w : Option (List ℕ)) (rest : List Line) → L x.state.histories → w ≡ v → CutShort t (served rest count x.state) L v w []
-    idle_cut L w rest held still = record {
+    idle_cut : (L : Histories → Type 0) (w : Option (List ℕ)) → L x.state.histories → w ≡ v → CutShort t (served rest count x.state) L v w []
+    idle_cut L w held still = record {
       done = [];
       histories = x.state.histories;
       held = held;
@@ -145,50 +109,48 @@ module _ (t : Terms) (s : State) where
 
     -- the same line in the one setting in which it stands
     abbrev here : List Line → Setting → Setting
-    here rest σ = record { openings = σ.openings; lines = rest; answered = count }
+    here others σ = record { openings = σ.openings; lines = others; answered = count }
 
-    cut_there : (L : Histories → Type 0) (w : Option (List ℕ)) (line : Line) (rest : List Line) (front : List ℕ) → CutShort t (at_line x.state line) L v w front → CutShort t (served (line ∷ rest) count x.state) L v w front
-    cut_there L w line rest front y = record {
+    cut_there : (L : Histories → Type 0) (w : Option (List ℕ)) (line : Line) (others : List Line) (front : List ℕ) → CutShort t (at_line x.state line) L v w front → CutShort t (served (line ∷ others) count x.state) L v w front
+    cut_there L w line others front y = record {
       done = y.done;
       histories = y.histories;
       held = y.held;
-      cut = λ σ. y.cut (here rest σ);
-      made = λ σ. y.made (here rest σ);
+      cut = λ σ. y.cut (here others σ);
+      made = λ σ. y.made (here others σ);
       written = y.written;
     }
 
-    ended_there : (L : Histories → Type 0) (w : Option (List ℕ)) (line : Line) (rest : List Line) (e : End) → Ended t (at_line x.state line) L v w e → Ended t (served (line ∷ rest) count x.state) L v w e
-    ended_there L w line rest e y = record {
+    ended_there : (L : Histories → Type 0) (w : Option (List ℕ)) (line : Line) (others : List Line) (e : End) → Ended t (at_line x.state line) L v w e → Ended t (served (line ∷ others) count x.state) L v w e
+    ended_there L w line others e y = record {
       steps = y.steps;
       histories = y.histories;
       held = y.held;
-      run = λ σ. y.run (here rest σ);
-      made = λ σ. y.made (here rest σ);
+      run = λ σ. y.run (here others σ);
+      made = λ σ. y.made (here others σ);
       written = y.written;
     }
 
-    faulted_there : (f : RunFault) (L : Histories → Type 0) (w : Option (List ℕ)) (line : Line) (rest : List Line) → Faulted t (at_line x.state line) f L v w → Faulted t (served (line ∷ rest) count x.state) f L v w
-    faulted_there (fault.Refused app leader id recordings code rule) L w line rest y = ended_there L w line rest (end.Refused app leader id recordings code rule) y
-    faulted_there (fault.Turns app turns) L w line rest y = ended_there L w line rest (end.Turns app turns) y
-    faulted_there (fault.Unreadable app id) L w line rest y = ended_there L w line rest (end.Unreadable app id) y
-    faulted_there (fault.Full app last capacity) L w line rest y = ended_there L w line rest (end.Full app last capacity) y
-    faulted_there fault.Recorder L w line rest y = cut_there L w line rest [] y
-    faulted_there fault.NoMemory L w line rest y = cut_there L w line rest [] y
+    faulted_there : (f : RunFault) (L : Histories → Type 0) (w : Option (List ℕ)) (line : Line) (others : List Line) → Faulted t (at_line x.state line) f L v w → Faulted t (served (line ∷ others) count x.state) f L v w
+    faulted_there (fault.Refused app leader id recordings code rule) L w line others y = ended_there L w line others (end.Refused app leader id recordings code rule) y
+    faulted_there (fault.Turns app turns) L w line others y = ended_there L w line others (end.Turns app turns) y
+    faulted_there (fault.Unreadable app id) L w line others y = ended_there L w line others (end.Unreadable app id) y
+    faulted_there (fault.Full app last capacity) L w line others y = ended_there L w line others (end.Full app last capacity) y
+    faulted_there fault.Recorder L w line others y = cut_there L w line others [] y
+    faulted_there fault.NoMemory L w line others y = cut_there L w line others [] y
 
-    fault_stops : (K : State → Type 0) (coming : Option (List Line)) (f : RunFault) (L : Histories → Type 0) (w : Option (List ℕ)) → ((n : State) → K n → L n.histories)
-        → TakesTurn t x.state K x.rest coming L v w (Err (stop.Fault f)) → Faulted t (whole t s ls) f L u w
+    fault_stops : (K : State → Type 0) (coming : List Line) (f : RunFault) (L : Histories → Type 0) (w : Option (List ℕ)) → ((n : State) → K n → L n.histories) → TakesTurn t x.state K rest coming L v w (Err (stop.Fault f)) → Faulted t (whole t s ls) f L u w
     fault_stops K coming f L w told (inl idle) =
         subst (λ g. Faulted t (whole t s ls) g L u w) (sym idle.0)
-        (came_cut t (whole t s ls) (λ n. Unit {0}) u v (λ n. served x.rest count n) (came_far x.rest refl) L w [] (idle_cut L w x.rest (told x.state idle.1.held) idle.1.unwritten))
+        (came_cut t (whole t s ls) (λ n. Unit {0}) u v (λ n. served rest count n) (came_far rest refl) L w [] (idle_cut L w (told x.state idle.1.held) idle.1.unwritten))
     fault_stops K coming f L w told (inr first) =
         came_faulted t (whole t s ls) (λ n. Unit {0}) u v (λ n. served (first.line ∷ first.rest) count n) (came_far (first.line ∷ first.rest) first.parts) f L w (faulted_there f L w first.line first.rest first.of_it)
 
-    pub stopped : (K : State → Type 0) (coming : Option (List Line)) (why : Stop) (L : Histories → Type 0) (w : Option (List ℕ)) → ((n : State) → K n → L n.histories)
-        → TakesTurn t x.state K x.rest coming L v w (Err why) → Serves t s K ls why count L u w
+    pub stopped : (K : State → Type 0) (coming : List Line) (why : Stop) (L : Histories → Type 0) (w : Option (List ℕ)) → ((n : State) → K n → L n.histories) → TakesTurn t x.state K rest coming L v w (Err why) → Serves t s K ls why count L u w
     stopped K coming stop.End L w told so = all_answered K w so.0 so.1.held so.1.unwritten
     stopped K coming stop.Over L w told so = is_over L w so.0 (told x.state so.1.held) so.1.unwritten
     stopped K coming (stop.Fault f) L w told so = fault_stops K coming f L w told so
-    stopped K coming stop.Read L w told so = was_reading K w so.held so.unwritten
+    stopped K coming stop.Read L w told so = (rest, was_reading K w so.held so.unwritten)
     stopped K coming stop.Sink L w told so =
         (so.of_it.0, came_cut t (whole t s ls) (λ n. Unit {0}) u v (λ n. served (so.line ∷ so.rest) count n) (came_far (so.line ∷ so.rest) so.parts) L w so.of_it.0 (cut_there L w so.line so.rest so.of_it.0 so.of_it.1))
 

@@ -1,10 +1,11 @@
 -- From serving lines to a run over applications.
-use Rattle.std.proofs.Common.{◌≡◌, inl, inr, ◌++◌, ℕ, List, [], Option, Ok, Err, refl, sym, ap, ◌∙◌, subst, append-nil, length}
+use Rattle.std.proofs.Common.{◌≡◌, inl, inr, ◌++◌, ℕ, List, [], Option, Some, Ok, Err, refl, sym, ap, ◌∙◌, subst, append-nil, length}
 use Rattle.std.specs.Io.KnownBytes.{Appends}
 use Rattle.es_model.specs.declared.declaration.System.{System}
 use Rattle.es_model.specs.declared.memory.Failed.{Failed}
 use Rattle.es_model.specs.History.{Histories}
-use Rattle.es_model.specs.Lines.{pieces_of, lines_of_pieces}
+use Rattle.es_model.specs.declared.limits.TheConstants.{MOST_LINE_BYTES, MOST_INPUT_BYTES}
+use Rattle.es_model.specs.Lines.{Line, pieces_of, lines_of_pieces}
 use Rattle.es_model.specs.Values.{Name}
 use Rattle.es_io.specs.Readings.{Readings}
 use Rattle.es_lines.specs.declared.ends.End.{End}
@@ -20,7 +21,7 @@ use Rattle.es_process.proofs.DrainLemmas.{run-exists}
 use Rattle.es_process.proofs.SingleThreadLemmas.{Goes-end, Goes-after}
 use Rattle.es_process.proofs.StandingLemmas.{appends_nothing, front_none}
 use Rattle.es_single.specs.Counts.{CountsTold}
-use Rattle.es_single.specs.Limits.{most_line, most_input, terms_of, all_lines}
+use Rattle.es_single.specs.Limits.{terms_of, all_lines}
 use Rattle.es_single.specs.Runs.{state_of, AreEmpty, PartRun, WholeRun, Runs}
 use Rattle.es_single.specs.Serves.{whole, served, Answered}
 use Rattle.es_single.specs.Taken.{Taken}
@@ -73,12 +74,12 @@ module _ (t : Terms) (openings : Histories) (r : Readings) (i : List ℕ) (L : H
       }
 
   -- some lines were answered
-  abbrev pub part_answered : (H : State → Type 0) (count : ℕ) (w : Option (List ℕ)) → ((n : State) → H n → L n.histories) → Answered t first H (all_lines i) count u w → PartRun t openings r i L u w []
-  part_answered H count w told x =
+  abbrev pub part_answered : (H : State → Type 0) (rest : List Line) (count : ℕ) (w : Option (List ℕ)) → ((n : State) → H n → L n.histories) → Answered t first H (all_lines i) rest count u w → PartRun t openings r i L u w []
+  part_answered H rest count w told x =
       let one = run-exists t.rules t.options openings r (all_lines i) in
-      let far : Goes t.rules t.options openings (whole t first (all_lines i) plain) (stand x.state [] [] x.rest count) x.steps
-      = subst (λ l. Goes t.rules t.options openings (stand first (leaders_of t.rules.pairs) [] l 0) (stand x.state [] [] x.rest count) x.steps) (sym x.parts) (x.goes x.rest openings) in
-      let later = Goes-after t.rules t.options openings (whole t first (all_lines i) plain) (stand x.state [] [] x.rest count) x.steps one.run far one.is in
+      let far : Goes t.rules t.options openings (whole t first (all_lines i) plain) (stand x.state [] [] rest count) x.steps
+      = subst (λ l. Goes t.rules t.options openings (stand first (leaders_of t.rules.pairs) [] l 0) (stand x.state [] [] rest count) x.steps) (sym x.parts) (x.goes rest openings) in
+      let later = Goes-after t.rules t.options openings (whole t first (all_lines i) plain) (stand x.state [] [] rest count) x.steps one.run far one.is in
       record {
         run = one.run;
         done = x.steps;
@@ -130,20 +131,21 @@ module _ (t : Terms) (openings : Histories) (r : Readings) (i : List ℕ) (L : H
     sink_runs w f x = (x.0, part_of w x.0 x.1)
 
     -- reading failed
-    pub read_runs : (H : State → Type 0) (count : ℕ) (w : Option (List ℕ)) → ((n : State) → H n → L n.histories) → Answered t first H (all_lines i) count u w → Taken i count unread → Runs t openings r i unread L u w (Ok end.Input)
-    read_runs H count w told x y = (
-      part_answered H count w told x,
+    pub read_runs : (H : State → Type 0) (lines : List Line) (left : List ℕ) (count : ℕ) (w : Option (List ℕ)) → ((n : State) → H n → L n.histories) → Answered t first H (all_lines i) lines count u w → Taken i count left → unread ≡ Some left
+        → Runs t openings r i unread L u w (Ok end.Input)
+    read_runs H lines left count w told x y is = (
+      part_answered H lines count w told x,
       record {
         answered = y.answered;
         begun = y.begun;
-        rest = y.rest;
-        unread_is = y.left_is;
+        rest = left;
+        unread_is = is;
         parts = y.parts;
         unended = y.unended;
         ends = y.ends;
         run = record { steps = x.steps; end = end.Ok (added_counts t.rules.names openings x.state.histories) count };
         is = subst (λ l. IsRun t.rules t.options openings (stand first (leaders_of t.rules.pairs) [] l 0) (record { steps = x.steps; end = end.Ok (added_counts t.rules.names openings x.state.histories) count }))
-            (append-nil x.taken ∙ taken_lines most_line most_input (pieces_of y.answered) (pieces_of (y.begun ++ y.rest)) x.taken x.rest (sym x.parts ∙ ap (lines_of_pieces most_line most_input) y.pieces) (sym x.counted ∙ sym y.number) x.within)
+            (append-nil x.taken ∙ taken_lines MOST_LINE_BYTES MOST_INPUT_BYTES (pieces_of y.answered) (pieces_of (y.begun ++ left)) x.taken lines (sym x.parts ∙ ap (lines_of_pieces MOST_LINE_BYTES MOST_INPUT_BYTES) y.pieces) (sym x.counted ∙ sym y.number) x.within)
             (Goes-end t.rules t.options openings (stand first (leaders_of t.rules.pairs) [] (x.taken ++ []) 0) (stand x.state [] [] [] count) x.steps (end.Ok (added_counts t.rules.names openings x.state.histories) count) (x.goes [] openings) refl);
         steps = refl;
         ended = (added_counts t.rules.names openings x.state.histories, count, refl);

@@ -1,14 +1,13 @@
 -- Lines that were taken whole.
 use Rattle.std.proofs.Common.{◌≡◌, ◌⊎◌, inl, inr, ◌+◌, ◌-◌, ◌≤◌, ◌==◌, ◌≢◌, ℕ, Bool, IsTrue, true, false, nat_lt, List, [], ◌∷◌, ◌++◌, length, if◌then◌else◌, Option, Some, None, Result, Ok, Err, OnOk, refl, sym, ap, ◌∙◌, subst, append-nil, append_assoc, length-append, arith}
-use Rattle.std.specs.Option.{option_map}
 use Rattle.std.proofs.lemmas.Bool.Decides.{nat_tests}
-use Rattle.es_model.specs.Lines.{Line, text, long, over, in_front, pieces_of, line_of, lines_of_pieces, NoLineFeed}
-use Rattle.es_io.specs.Next.{IsNext, Uses, UsesLine, EndsUnended, TakesAtMost}
+use Rattle.es_model.specs.declared.limits.TheConstants.{MOST_INPUT_BYTES}
+use Rattle.es_model.specs.Lines.{Line, over, in_front, pieces_of, line_of, lines_of_pieces, NoLineFeed}
+use Rattle.es_io.specs.Next.{UsesLine, TakesAtMost}
 use Rattle.es_io.proofs.LinesLemmas.{TakesAtMost-none}
-use Rattle.es_io.specs.declared.lines.Step.TheVariants as step
-use Rattle.es_single.specs.Limits.{most_input, TakesLines}
+use Rattle.es_single.specs.Limits.{TakesLines}
 use Rattle.es_single.specs.Serves.{NoneOver}
-use Rattle.es_single.specs.Taken.{EndsLine, UsesTold, Counted, Taken}
+use Rattle.es_single.specs.Taken.{EndsLine, UsesSome, LeavesUnended, Counted, Taken}
 
 -- a line with its line feed is the first piece
 not_feed : (b : ℕ) → b ≢ 10 → (b == 10) ≡ false
@@ -57,20 +56,18 @@ pieces_after answered more (inl none) = subst (λ a. pieces_of (a ++ more) ≡ p
 pieces_after answered more (inr ends) = subst (λ a. pieces_of (a ++ more) ≡ pieces_of a ++ pieces_of more) (sym ends.1) (ended_pieces ends.0 more)
 
 -- before the first line
-pub counted_none : (bytes : List ℕ) (left : Option (List ℕ)) (ended : Bool) → left ≡ Some bytes → Counted bytes 0 left ended
-counted_none bytes left ended is = record { answered = []; rest = bytes; left_is = is; parts = refl; pieces = refl; number = refl; ends = inl (inl refl) }
+pub counted_none : (bytes : List ℕ) (ended : Bool) → Counted bytes 0 bytes ended
+counted_none bytes ended = record { answered = []; parts = refl; pieces = refl; number = refl; ends = inl (inl refl) }
 
 -- one line more
-module _ (bytes : List ℕ) (count : ℕ) (before : Option (List ℕ)) (was now : Bool) (x : Counted bytes count before was) where
-  by_feed : (front rest : List ℕ) → NoLineFeed front → x.rest ≡ front ++ 10 ∷ rest → EndsLine x.answered → Counted bytes (count + 1) (Some rest) now
+module _ (bytes : List ℕ) (count : ℕ) (before : List ℕ) (was now : Bool) (x : Counted bytes count before was) where
+  by_feed : (front rest : List ℕ) → NoLineFeed front → before ≡ front ++ 10 ∷ rest → EndsLine x.answered → Counted bytes (count + 1) rest now
   by_feed front rest none is whole =
       let line = front ++ 10 ∷ [] in
-      let split : x.rest ≡ line ++ rest = is ∙ sym (append_assoc front (10 ∷ []) rest) in
+      let split : before ≡ line ++ rest = is ∙ sym (append_assoc front (10 ∷ []) rest) in
       let more : pieces_of (x.answered ++ line) ≡ pieces_of x.answered ++ line ∷ [] = pieces_after x.answered line whole ∙ ap (λ (ps : List (List ℕ)). pieces_of x.answered ++ ps) (pieces_line front [] none) in
       record {
         answered = x.answered ++ line;
-        rest = rest;
-        left_is = refl;
         parts = x.parts ∙ ap (λ (r : List ℕ). x.answered ++ r) split ∙ sym (append_assoc x.answered line rest);
         pieces = x.pieces ∙ ap (λ (r : List ℕ). pieces_of x.answered ++ pieces_of r) is ∙ ap (λ (ps : List (List ℕ)). pieces_of x.answered ++ ps) (pieces_line front rest none)
             ∙ sym (append_assoc (pieces_of x.answered) (line ∷ []) (pieces_of rest)) ∙ ap (λ (ps : List (List ℕ)). ps ++ pieces_of rest) (sym more);
@@ -78,54 +75,42 @@ module _ (bytes : List ℕ) (count : ℕ) (before : Option (List ℕ)) (was now 
         ends = inl (inr (x.answered ++ front, sym (append_assoc x.answered front (10 ∷ []))));
       }
 
-  by_end : (b : ℕ) (front : List ℕ) → NoLineFeed (b ∷ front) → x.rest ≡ b ∷ front → IsTrue now → EndsLine x.answered → Counted bytes (count + 1) (Some []) now
+  by_end : (b : ℕ) (front : List ℕ) → NoLineFeed (b ∷ front) → before ≡ b ∷ front → IsTrue now → EndsLine x.answered → Counted bytes (count + 1) [] now
   by_end b front none is ended whole =
       let more : pieces_of (x.answered ++ b ∷ front) ≡ pieces_of x.answered ++ (b ∷ front) ∷ [] = pieces_after x.answered (b ∷ front) whole ∙ ap (λ (ps : List (List ℕ)). pieces_of x.answered ++ ps) (pieces_last b front none) in
       record {
         answered = x.answered ++ b ∷ front;
-        rest = [];
-        left_is = refl;
         parts = x.parts ∙ ap (λ (r : List ℕ). x.answered ++ r) is ∙ sym (append-nil (x.answered ++ b ∷ front));
         pieces = ap pieces_of (x.parts ∙ ap (λ (r : List ℕ). x.answered ++ r) is) ∙ sym (append-nil (pieces_of (x.answered ++ b ∷ front)));
         number = ap length more ∙ omega (arith, x.number, length-append (pieces_of x.answered) ((b ∷ front) ∷ []));
         ends = inr (refl, ended);
       }
 
-  by_use : (new : List ℕ) → (x.rest ≡ [] → ⊥) → UsesLine x.rest new now → EndsLine x.answered ⊎ ((x.rest ≡ []) × IsTrue was) → Counted bytes (count + 1) (Some new) now
+  by_use : (new : List ℕ) → (before ≡ [] → ⊥) → UsesLine before new now → EndsLine x.answered ⊎ ((before ≡ []) × IsTrue was) → Counted bytes (count + 1) new now
   by_use new some used (inr nothing) = absurd (some nothing.0)
   by_use new some (front, none, inl is) (inl whole) = by_feed front new none is whole
   by_use new some ([], none, inr is) (inl whole) = absurd (some is.0)
-  by_use new some (b ∷ front, none, inr is) (inl whole) = subst (λ t. Counted bytes (count + 1) (Some t) now) (sym is.1) (by_end b front none is.0 is.2 whole)
+  by_use new some (b ∷ front, none, inr is) (inl whole) = subst (λ t. Counted bytes (count + 1) t now) (sym is.1) (by_end b front none is.0 is.2 whole)
 
-  pub counted_more : (after : Option (List ℕ)) → UsesTold before after now → Counted bytes (count + 1) after now
-  counted_more after used = by_told after (subst (λ o. UsesTold o after now) x.left_is used)
-    where
-      by_told : (o : Option (List ℕ)) → UsesTold (Some x.rest) o now → Counted bytes (count + 1) o now
-      by_told None u = absurd u
-      by_told (Some new) u = by_use new u.0 u.1 x.ends
+  pub counted_more : (after : List ℕ) → UsesSome before after now → Counted bytes (count + 1) after now
+  counted_more after used = by_use after used.0 used.1 x.ends
 
 -- a read failed, and the source wasn't known to be at its end
-module _ (bytes : List ℕ) (count : ℕ) (before : Option (List ℕ)) (x : Counted bytes count before false) where
-  whole_lines : EndsLine x.answered ⊎ ((x.rest ≡ []) × IsTrue false) → EndsLine x.answered
+module _ (bytes : List ℕ) (count : ℕ) (before : List ℕ) (x : Counted bytes count before false) where
+  whole_lines : EndsLine x.answered ⊎ ((before ≡ []) × IsTrue false) → EndsLine x.answered
   whole_lines (inl whole) = whole
   whole_lines (inr known) = absurd (cc known.1)
 
-  pub counted_taken : (left : Option (List ℕ)) → EndsUnended before left → Taken bytes count left
-  counted_taken left ended = by_told left (subst (λ o. EndsUnended o left) x.left_is ended)
-    where
-      by_told : (o : Option (List ℕ)) → EndsUnended (Some x.rest) o → Taken bytes count o
-      by_told None u = absurd u
-      by_told (Some rest) (begun, is, none) = record {
-        answered = x.answered;
-        begun = begun;
-        rest = rest;
-        left_is = refl;
-        parts = x.parts ∙ ap (λ (r : List ℕ). x.answered ++ r) is;
-        unended = none;
-        pieces = x.pieces ∙ ap (λ (r : List ℕ). pieces_of x.answered ++ pieces_of r) is;
-        number = x.number;
-        ends = whole_lines x.ends;
-      }
+  pub counted_taken : (rest : List ℕ) → LeavesUnended before rest → Taken bytes count rest
+  counted_taken rest left = record {
+    answered = x.answered;
+    begun = left.0;
+    parts = x.parts ∙ ap (λ (r : List ℕ). x.answered ++ r) left.1;
+    unended = left.2;
+    pieces = x.pieces ∙ ap (λ (r : List ℕ). pieces_of x.answered ++ pieces_of r) left.1;
+    number = x.number;
+    ends = whole_lines x.ends;
+  }
 
 by_room : (b : Bool) (line : Line) (after taken : List Line) (first : Line) (others wanted : List Line) → (line ≡ over → ⊥) → (after ≡ others → taken ≡ wanted) → line ∷ after ≡ (if b then over ∷ [] else first ∷ others)
     → line ∷ taken ≡ (if b then over ∷ [] else first ∷ wanted)
@@ -148,18 +133,9 @@ pub on_ok : {T E P : Type 0} → (r : Result T E) → P → OnOk r P
 on_ok (Ok x) p = p
 on_ok (Err e) p = tt
 
--- a turn used a line
-pub line_used : (f : List ℕ → List Line) → f [] ≡ [] → (old new : Option (List ℕ)) (ended : Bool) (left : Option (List Line)) (t : List ℕ) → IsNext (option_map f old) left (step.Line t) → Uses old new ended (step.Line t) → UsesTold old new ended
-line_used f none None new ended left t next so = tt
-line_used f none (Some old) None ended left t next so = so
-line_used f none (Some old) (Some new) ended None t next so = absurd next
-line_used f none (Some old) (Some new) ended (Some after) t next so = (λ is. let clash : [] ≡ text t ∷ after = sym none ∙ ap f (sym is) ∙ next in absurd (cc clash), so)
-
-pub long_used : (f : List ℕ → List Line) → f [] ≡ [] → (old new : Option (List ℕ)) (ended : Bool) (left : Option (List Line)) → IsNext (option_map f old) left step.Long → Uses old new ended step.Long → UsesTold old new ended
-long_used f none None new ended left next so = tt
-long_used f none (Some old) None ended left next so = so
-long_used f none (Some old) (Some new) ended None next so = absurd next
-long_used f none (Some old) (Some new) ended (Some after) next so = (λ is. let clash : [] ≡ long ∷ after = sym none ∙ ap f (sym is) ∙ next in absurd (cc clash), so)
+-- there is a first line only where there are bytes
+pub some_bytes : (f : List ℕ → List Line) → f [] ≡ [] → (old : List ℕ) (line : Line) (after : List Line) → f old ≡ line ∷ after → old ≡ [] → ⊥
+some_bytes f none old line after next is = let clash : [] ≡ line ∷ after = sym none ∙ ap f (sym is) ∙ next in absurd (cc clash)
 
 -- no less was taken than more allows
 pub takes_less : (v w : Option (List ℕ)) (most still less : ℕ) → TakesAtMost v w most still → less ≤ still → TakesAtMost v w most less
@@ -168,10 +144,10 @@ takes_less (Some xs) None most still less so fewer = absurd so
 takes_less (Some xs) (Some ys) most still less so fewer = omega (arith, so, fewer)
 
 -- what a reader took that may take so much is what was taken of the source that it was lent
-pub took_lines : (old lent left new : Option (List ℕ)) (may still : ℕ) → lent ≡ old → left ≡ new → may ≡ most_input + 1 → TakesAtMost lent left may still → TakesLines old new
+pub took_lines : (old lent left new : Option (List ℕ)) (may still : ℕ) → lent ≡ old → left ≡ new → may ≡ MOST_INPUT_BYTES + 1 → TakesAtMost lent left may still → TakesLines old new
 took_lines old lent left new may still begun ended whole taken =
-    takes_less old new (most_input + 1) still 0 (subst (λ m. TakesAtMost old new m still) whole (subst (λ u. TakesAtMost u new may still) begun (subst (λ w. TakesAtMost lent w may still) ended taken))) (omega arith)
+    takes_less old new (MOST_INPUT_BYTES + 1) still 0 (subst (λ m. TakesAtMost old new m still) whole (subst (λ u. TakesAtMost u new may still) begun (subst (λ w. TakesAtMost lent w may still) ended taken))) (omega arith)
 
 -- nothing was taken
 pub took_nothing : (old new : Option (List ℕ)) → new ≡ old → TakesLines old new
-took_nothing old new same = took_lines old old old new (most_input + 1) (most_input + 1) refl (sym same) refl (TakesAtMost-none old (most_input + 1))
+took_nothing old new same = took_lines old old old new (MOST_INPUT_BYTES + 1) (MOST_INPUT_BYTES + 1) refl (sym same) refl (TakesAtMost-none old (MOST_INPUT_BYTES + 1))

@@ -1,5 +1,5 @@
 -- What answering lines over opened applications leaves.
-use Rattle.std.specs.Prelude.{◌≡◌, ◌⊎◌, ℕ, ◌+◌, List, [], ◌∷◌, ◌++◌, length, Option, Some, Result, Ok, Err}
+use Rattle.std.specs.Prelude.{◌≡◌, ◌⊎◌, ℕ, ◌+◌, List, [], ◌∷◌, ◌++◌, length, Option, Result, Ok, Err}
 use Rattle.std.specs.Io.KnownBytes.{Appends}
 use Rattle.es_model.specs.History.{Histories}
 use Rattle.es_model.specs.Lines.{Line, over}
@@ -108,22 +108,22 @@ AnswersLine t s holds line left before now (Err stop.Over) = ⊥
 AnswersLine t s holds line left before now (Err stop.Read) = ⊥
 
 -- the lines begin with one, of which this holds
-pub record FirstOf (P : Line → List Line → Type 0) (lines : List Line) : Type 0 where
+pub record FirstOf (P : Line → Type 0) (lines : List Line) : Type 0 where
   pub line : Line
   pub rest : List Line
   pub parts : lines ≡ line ∷ rest
-  pub of_it : P line rest
+  pub of_it : P line
 
 -- nothing was done
 pub record Idle (s : State) (holds : State → Type 0) (before now : Option (List ℕ)) : Type 0 where
   pub held : holds s
   pub unwritten : now ≡ before
 
--- what the next line leaves, where these lines are to come
-abbrev pub TakesTurn : Terms → State → (State → Type 0) → List Line → Option (List Line) → (Histories → Type 0) → Option (List ℕ) → Option (List ℕ) → Result (Unit {0}) Stop → Type 0
-TakesTurn t s holds lines coming left before now (Ok x) = FirstOf (λ line rest. (coming ≡ Some rest) × (line ≡ over → ⊥) × Came t (at_line s line) holds before now past_it) lines
-TakesTurn t s holds lines coming left before now (Err (stop.Fault f)) = ((f ≡ fault.NoMemory) × Idle s holds before now) ⊎ FirstOf (λ line rest. Faulted t (at_line s line) f left before now) lines
-TakesTurn t s holds lines coming left before now (Err stop.Sink) = FirstOf (λ line rest. CutInText t (at_line s line) left before now) lines
+-- what the next line leaves, where these lines are to come, and then those
+abbrev pub TakesTurn : Terms → State → (State → Type 0) → List Line → List Line → (Histories → Type 0) → Option (List ℕ) → Option (List ℕ) → Result (Unit {0}) Stop → Type 0
+TakesTurn t s holds lines coming left before now (Ok x) = (line : Line) × (lines ≡ line ∷ coming) × (line ≡ over → ⊥) × Came t (at_line s line) holds before now past_it
+TakesTurn t s holds lines coming left before now (Err (stop.Fault f)) = ((f ≡ fault.NoMemory) × Idle s holds before now) ⊎ FirstOf (λ line. Faulted t (at_line s line) f left before now) lines
+TakesTurn t s holds lines coming left before now (Err stop.Sink) = FirstOf (λ line. CutInText t (at_line s line) left before now) lines
 TakesTurn t s holds lines coming left before now (Err stop.End) = (lines ≡ []) × Idle s holds before now
 TakesTurn t s holds lines coming left before now (Err stop.Over) = (lines ≡ over ∷ []) × Idle s holds before now
 TakesTurn t s holds lines coming left before now (Err stop.Read) = Idle s holds before now
@@ -141,10 +141,9 @@ abbrev pub NoneOver : List Line → Type 0
 NoneOver [] = Unit {0}
 NoneOver (line ∷ lines) = (line ≡ over → ⊥) × NoneOver lines
 
--- some first lines were all answered, whatever comes after them
-pub record Answered (t : Terms) (s : State) (holds : State → Type 0) (lines : List Line) (count : ℕ) (before now : Option (List ℕ)) : Type 0 where
+-- of some lines all but the rest were answered, whatever comes after them
+pub record Answered (t : Terms) (s : State) (holds : State → Type 0) (lines rest : List Line) (count : ℕ) (before now : Option (List ℕ)) : Type 0 where
   pub taken : List Line
-  pub rest : List Line
   pub parts : lines ≡ taken ++ rest
   pub counted : count ≡ length taken
   pub within : NoneOver taken
@@ -155,7 +154,7 @@ pub record Answered (t : Terms) (s : State) (holds : State → Type 0) (lines : 
   pub written : Appends before now (written_by steps)
 
 -- the opening drain came from the first state to the second
-pub record Begun (t : Terms) (s next : State) (lines : List Line) (before now : Option (List ℕ)) : Type 0 where
+pub record Begun (t : Terms) (s next : State) (before now : Option (List ℕ)) : Type 0 where
   pub steps : List Step
   pub goes : (more : List Line) (openings : Histories) → Goes t.rules t.options openings (stand s (leaders_of t.rules.pairs) [] more 0) (stand next [] [] more 0) steps
   pub written : Appends before now (written_by steps)
@@ -165,5 +164,5 @@ abbrev pub Serves : Terms → State → (State → Type 0) → List Line → Sto
 Serves t s holds lines stop.End count left before now = Came t (whole t s lines) holds before now (served [] count)
 Serves t s holds lines stop.Over count left before now = Ended t (whole t s lines) left before now end.Over
 Serves t s holds lines (stop.Fault f) count left before now = Faulted t (whole t s lines) f left before now
-Serves t s holds lines stop.Read count left before now = Answered t s holds lines count before now
+Serves t s holds lines stop.Read count left before now = (rest : List Line) × Answered t s holds lines rest count before now
 Serves t s holds lines stop.Sink count left before now = CutInText t (whole t s lines) left before now

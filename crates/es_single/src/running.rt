@@ -6,25 +6,22 @@ ghost use Rattle.es_model.specs.Rising.{with_item};
 ghost use Rattle.es_io.specs.Readings.{Readings};
 ghost use Rattle.es_process.specs.Drains.{IsOnlyPair};
 ghost use Rattle.es_process.specs.Faults.{end_of};
-ghost use Rattle.es_process.specs.SingleThread.{leaders_of};
-ghost use Rattle.es_process.specs.Standing.{Holds, HoldHistories, Later, SomeRose, names_in, snapshots_in, AreDistinct, IsSame, MayFailToRead};
-ghost use Rattle.es_process.specs.SystemRules.{app_names, in_order, rules_of};
+ghost use Rattle.es_process.specs.Standing.{Holds, HoldHistories, AllStay, SomeRose, names_in, AreDistinct, IsSame, MayFailToRead};
+ghost use Rattle.es_process.specs.SystemRules.{app_names, in_order};
 ghost use Rattle.es_single.specs.Counts.{CountsTold, IsCounted};
 ghost use Rattle.es_single.specs.Limits.{limits, terms_of, TakesLines};
+ghost use Rattle.es_single.specs.Traced.{OfInput};
 ghost use Rattle.es_single.specs.Runs.{AreEmpty, IsRunning, Runs, state_of};
 
 use crate::serve::{Stop, serve};
 use es_decl::leaders;
 use es_io::{Clock, Lines, Sink, Source};
 use es_lines::End;
+use es_model::limits::{MOST_INPUT_BYTES, MOST_LINE_BYTES};
 use es_model::{CallFault, Counts, Duplicate, Failed, NoMemory, System};
 use es_process::{Application, Pair, RunFault};
 use es_recorder::ProcessRecorder;
 use std::alloc::Global;
-
-const LINE_LIMIT: u64 = 65536;
-
-const TOTAL_LIMIT: u64 = 1 << 30;
 
 // Gives an application's name the number of its recordings.
 fn count_one<R: ProcessRecorder>(
@@ -33,9 +30,7 @@ fn count_one<R: ProcessRecorder>(
 ) -> Result<(), RunFault>
     ensures counted { (h : List Recording) → R.history app.old.recorder ≡ Some h → OnOk result (counts.new ≡ with_item counts.old app.old.name (length h)) }
     ensures faults { IfErr result MayFailToRead }
-    ensures same { IsSame R.history R.capacity app.old app.new }
-    ensures same_snapshots { R.snapshots app.new.recorder ≡ R.snapshots app.old.recorder }
-    ensures later { R.faults app.old.recorder ≤ R.faults app.new.recorder }
+    ensures same { IsSame R.history R.capacity R.snapshots R.faults app.old app.new }
     ensures recorder { IsErrOf result RunFault.Recorder → Rose (R.faults app.old.recorder) (R.faults app.new.recorder) }
 {
     let number = match app.recorder.recordings() {
@@ -60,11 +55,9 @@ fn count_each<R: ProcessRecorder>(
     requires distinct { AreDistinct (names_in apps.old) }
     requires empty { counts.old ≡ [] }
     ensures counted { (base h : Histories) → HoldHistories R.history base apps.old h → OnOk result (counts.new ≡ in_order (λ n. length (h n)) (names_in apps.old)) }
-    ensures same { (base h : Histories) → HoldHistories R.history base apps.old h → HoldHistories R.history base apps.new h }
+    ensures holds { (base h : Histories) → HoldHistories R.history base apps.old h → HoldHistories R.history base apps.new h }
     ensures faults { IfErr result MayFailToRead }
-    ensures same_names { names_in apps.new ≡ names_in apps.old }
-    ensures same_snapshots { snapshots_in R.snapshots apps.new ≡ snapshots_in R.snapshots apps.old }
-    ensures later { Later R.faults apps.old apps.new }
+    ensures same { AllStay R.snapshots R.faults apps.old apps.new }
     ensures recorder { IsErrOf result RunFault.Recorder → SomeRose R.faults apps.old apps.new }
 {
     let mut place = apps.len();
@@ -83,10 +76,8 @@ fn counted<R: ProcessRecorder>(alloc: Global, apps: &mut [Application<R>], lines
     requires distinct { AreDistinct (names_in apps.old) }
     ensures counts { (base h : Histories) → HoldHistories R.history base apps.old h → CountsTold (in_order (λ n. length (h n)) (names_in apps.old)) lines result }
     ensures counted { IsCounted result }
-    ensures same { (base h : Histories) → HoldHistories R.history base apps.old h → HoldHistories R.history base apps.new h }
-    ensures same_names { names_in apps.new ≡ names_in apps.old }
-    ensures same_snapshots { snapshots_in R.snapshots apps.new ≡ snapshots_in R.snapshots apps.old }
-    ensures later { Later R.faults apps.old apps.new }
+    ensures holds { (base h : Histories) → HoldHistories R.history base apps.old h → HoldHistories R.history base apps.new h }
+    ensures same { AllStay R.snapshots R.faults apps.old apps.new }
     ensures recorder { result ≡ End.Recorder → SomeRose R.faults apps.old apps.new }
 {
     let mut added = Counts::new(alloc);
@@ -132,10 +123,8 @@ fn fault_end(fault: RunFault) -> End
     }
 }
 
-/// Runs a system over the lines of a source, over its opened applications, which hold nothing yet, and says how the
-/// run ends: all leaders are drained first, each line is answered before the next is read, and after an
-/// accepted one its followers process what it added. The end line isn't written. `Failed` is the sink's.
-pub fn run<S: Source, T: Sink, R: ProcessRecorder, C: Clock>(
+// The run, where the input and the readings may be untold.
+fn run_lines<S: Source, T: Sink, R: ProcessRecorder, C: Clock>(
     alloc: Global,
     sys: &System,
     pair: &Option<Pair>,
@@ -145,13 +134,11 @@ pub fn run<S: Source, T: Sink, R: ProcessRecorder, C: Clock>(
     clock: &mut C,
 ) -> Result<End, Failed>
     requires pair { IsOnlyPair sys.now (names_in apps.old) pair.now }
-    ensures runs { (i : List ℕ) (openings : Histories) (r : Readings) → S.left lines.old ≡ Some i → AreEmpty (app_names sys.now) openings
-        → Holds R.history R.capacity openings limits apps.old (C.readings clock.old) (state_of openings r)
-        → Runs (terms_of sys.now) openings r i (S.left lines.new) (HoldHistories R.history openings apps.new) (T.written out.old) (T.written out.new) result }
+    ensures traced { OfInput (S.left lines.old) (S.left lines.new) (C.readings clock.old) (λ i rest r. (openings : Histories) → AreEmpty (app_names sys.now) openings
+        → Holds R.history R.capacity openings limits apps.old (Some r) (state_of openings r)
+        → Runs (terms_of sys.now) openings r i (Some rest) (HoldHistories R.history openings apps.new) (T.written out.old) (T.written out.new) result) }
     ensures running { IfOk result IsRunning }
-    ensures same_names { names_in apps.new ≡ names_in apps.old }
-    ensures same_snapshots { snapshots_in R.snapshots apps.new ≡ snapshots_in R.snapshots apps.old }
-    ensures recorders_later { Later R.faults apps.old apps.new }
+    ensures same { AllStay R.snapshots R.faults apps.old apps.new }
     ensures out_later { T.faults out.old ≤ T.faults out.new }
 
     // Unless memory ran out, at most one byte past the limit was taken from the lines.
@@ -164,7 +151,7 @@ pub fn run<S: Source, T: Sink, R: ProcessRecorder, C: Clock>(
     let Ok(prompted) = leaders(alloc, sys) else {
         return Ok(End::Memory);
     };
-    let Ok(mut reader) = Lines::new(alloc, lines, LINE_LIMIT, TOTAL_LIMIT) else {
+    let Ok(mut reader) = Lines::new(alloc, lines, MOST_LINE_BYTES, MOST_INPUT_BYTES) else {
         return Ok(End::Memory);
     };
     let (stop, count) = serve(
@@ -185,4 +172,39 @@ pub fn run<S: Source, T: Sink, R: ProcessRecorder, C: Clock>(
         Stop::Read => Ok(End::Input),
         Stop::Sink => Err(Failed),
     }
+}
+
+/// Runs a system over the lines of a source, over its opened applications, which hold nothing yet, and says how the
+/// run ends: all leaders are drained first, each line is answered before the next is read, and after an
+/// accepted one its followers process what it added. The end line isn't written. `Failed` is the sink's.
+pub fn run<S: Source, T: Sink, R: ProcessRecorder, C: Clock>(
+    alloc: Global,
+    sys: &System,
+    pair: &Option<Pair>,
+    lines: &mut S,
+    out: &mut T,
+    apps: &mut [Application<R>],
+    clock: &mut C,
+) -> Result<End, Failed>
+    requires pair { IsOnlyPair sys.now (names_in apps.old) pair.now }
+    ensures traced { OfInput (S.left lines.old) (S.left lines.new) (C.readings clock.old) (λ i rest r. (openings : Histories) → AreEmpty (app_names sys.now) openings
+        → Holds R.history R.capacity openings limits apps.old (Some r) (state_of openings r)
+        → Runs (terms_of sys.now) openings r i (Some rest) (HoldHistories R.history openings apps.new) (T.written out.old) (T.written out.new) result) }
+
+    // The same where the input and the readings are told.
+    ensures runs { (i : List ℕ) (openings : Histories) (r : Readings) → S.left lines.old ≡ Some i → AreEmpty (app_names sys.now) openings
+        → Holds R.history R.capacity openings limits apps.old (C.readings clock.old) (state_of openings r)
+        → Runs (terms_of sys.now) openings r i (S.left lines.new) (HoldHistories R.history openings apps.new) (T.written out.old) (T.written out.new) result }
+    ensures running { IfOk result IsRunning }
+    ensures same { AllStay R.snapshots R.faults apps.old apps.new }
+    ensures out_later { T.faults out.old ≤ T.faults out.new }
+
+    // Unless memory ran out, at most one byte past the limit was taken from the lines.
+    ensures bound { (result ≡ Ok End.Memory) ⊎ TakesLines (S.left lines.old) (S.left lines.new) }
+
+    ensures input { result ≡ Ok End.Input → Rose (S.faults lines.old) (S.faults lines.new) }
+    ensures sink { OnErr result (Rose (T.faults out.old) (T.faults out.new)) }
+    ensures recorder { result ≡ Ok End.Recorder → SomeRose R.faults apps.old apps.new }
+{
+    run_lines(alloc, sys, pair, lines, out, apps, clock)
 }

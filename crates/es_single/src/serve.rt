@@ -1,4 +1,4 @@
-ghost use Rattle.std.specs.Prelude.{◌≡◌, ◌<◌, ◌≤◌, ◌^◌, ℕ, List, Option, None, Some, false, OnOk, OnErr, IfErr, IsErrOf};
+ghost use Rattle.std.specs.Prelude.{◌≡◌, ◌<◌, ◌≤◌, ◌^◌, ℕ, List, Option, None, false, OnOk, OnErr, IfErr, IsErrOf};
 ghost use Rattle.std.specs.List.{position_or_len};
 ghost use Rattle.std.specs.Str.{bytes_eq};
 ghost use Rattle.std.specs.Io.KnownBytes.{Appends};
@@ -6,17 +6,20 @@ ghost use Rattle.es_model.specs.Causes.{HasCause, Rose};
 ghost use Rattle.es_model.specs.History.{Histories};
 ghost use Rattle.es_model.specs.Lines.{Line, text as text_line};
 ghost use Rattle.es_io.specs.Front.{AppendsFront};
-ghost use Rattle.es_io.specs.LinesLeft.{lines_left, unread_of, room_of, may_take, has_ended, source_of, fault_of, EndsRightly};
-ghost use Rattle.es_io.specs.Next.{EndsUnended, TakesAtMost};
+ghost use Rattle.es_io.specs.LinesLeft.{room_of, has_ended, source_of, fault_of, EndsRightly};
 ghost use Rattle.es_lines.specs.Requests.{IsDeclared, asks, request_in};
 ghost use Rattle.es_process.specs.Answer.{Options};
 ghost use Rattle.es_process.specs.Drains.{IsOnlyPair};
 ghost use Rattle.es_process.specs.SingleThread.{leaders_of};
-ghost use Rattle.es_process.specs.Standing.{State, Holds, HoldHistories, Later, SomeRose, names_in, snapshots_in};
+ghost use Rattle.es_process.specs.Standing.{State, Holds, HoldHistories, AllStay, SomeRose, names_in};
 ghost use Rattle.es_process.specs.SystemRules.{reply_to, rules_of};
 ghost use Rattle.es_process.specs.Terms.{terms};
 ghost use Rattle.es_single.specs.Serves.{SaysIt, DrainsAfter, RepliesAndDrains, AnswersLine, TakesTurn, Begun, Serves, prompted_by, IsSaying, IsFault, IsAnswering};
-ghost use Rattle.es_single.specs.Taken.{UsesTold, Taken};
+ghost use Rattle.es_io.specs.Remains.{MayHold, MayHaveLeft, lines_from};
+ghost use Rattle.es_process.specs.Traced.{Traced};
+ghost use Rattle.es_single.specs.Stays.{LinesStay};
+ghost use Rattle.es_single.specs.Taken.{UsesSome, LeavesUnended, Taken};
+ghost use Rattle.es_single.specs.Traced.{LinesTraced};
 
 use es_domain::Command;
 use es_io::{Clock, Lines, LinesFault, Sink, Source, Step, write_all};
@@ -79,12 +82,10 @@ fn reply_and_drain<T: Sink, R: ProcessRecorder, C: Clock>(
     reply: &Reply,
 ) -> Result<(), Stop>
     requires pair { IsOnlyPair sys.now (names_in apps.old) pair.now }
-    ensures replied { (base : Histories) (options : Options) (s : State) → Holds R.history R.capacity base options apps.old (C.readings clock.old) s
-        → RepliesAndDrains (terms (rules_of sys.now) options) s (Holds R.history R.capacity base options apps.new (C.readings clock.new)) (prompted_by reply.now prompted.now) reply.now (HoldHistories R.history base apps.new)
-        (T.written out.old) (T.written out.new) result }
-    ensures same_names { names_in apps.new ≡ names_in apps.old }
-    ensures same_snapshots { snapshots_in R.snapshots apps.new ≡ snapshots_in R.snapshots apps.old }
-    ensures recorders_later { Later R.faults apps.old apps.new }
+    ensures replied { Traced (C.readings clock.old) (C.readings clock.new) (λ before after. (base : Histories) (options : Options) (s : State) → Holds R.history R.capacity base options apps.old before s
+        → RepliesAndDrains (terms (rules_of sys.now) options) s (Holds R.history R.capacity base options apps.new after) (prompted_by reply.now prompted.now) reply.now (HoldHistories R.history base apps.new)
+        (T.written out.old) (T.written out.new) result) }
+    ensures same { AllStay R.snapshots R.faults apps.old apps.new }
     ensures out_later { T.faults out.old ≤ T.faults out.new }
     ensures sink { IsErrOf result Stop.Sink → Rose (T.faults out.old) (T.faults out.new) }
     ensures recorder { IsErrOf result (Stop.Fault RunFault.Recorder) → SomeRose R.faults apps.old apps.new }
@@ -107,12 +108,10 @@ fn drain_after<R: ProcessRecorder, C: Clock>(
     reply: &Reply,
 ) -> Result<(), Stop>
     requires pair { IsOnlyPair sys.now (names_in apps.old) pair.now }
-    ensures drained { (base : Histories) (options : Options) (s : State) (u : Option (List ℕ)) → Holds R.history R.capacity base options apps.old (C.readings clock.old) s
-        → DrainsAfter (terms (rules_of sys.now) options) s (Holds R.history R.capacity base options apps.new (C.readings clock.new)) (prompted_by reply.now prompted.now) (HoldHistories R.history base apps.new) u result }
+    ensures drained { Traced (C.readings clock.old) (C.readings clock.new) (λ before after. (base : Histories) (options : Options) (s : State) (u : Option (List ℕ)) → Holds R.history R.capacity base options apps.old before s
+        → DrainsAfter (terms (rules_of sys.now) options) s (Holds R.history R.capacity base options apps.new after) (prompted_by reply.now prompted.now) (HoldHistories R.history base apps.new) u result) }
     ensures faults { IfErr result IsFault }
-    ensures same_names { names_in apps.new ≡ names_in apps.old }
-    ensures same_snapshots { snapshots_in R.snapshots apps.new ≡ snapshots_in R.snapshots apps.old }
-    ensures later { Later R.faults apps.old apps.new }
+    ensures same { AllStay R.snapshots R.faults apps.old apps.new }
     ensures recorder { IsErrOf result (Stop.Fault RunFault.Recorder) → SomeRose R.faults apps.old apps.new }
 {
     match reply {
@@ -157,12 +156,10 @@ fn answer_command<T: Sink, R: ProcessRecorder, C: Clock>(
 ) -> Result<(), Stop>
     requires pair { IsOnlyPair sys.now (names_in apps.old) pair.now }
     requires declared { IsDeclared sys.now app command.now }
-    ensures answered { (base : Histories) (options : Options) (s : State) (line : List ℕ) → request_in sys.now line ≡ asks app command.now → Holds R.history R.capacity base options apps.old (C.readings clock.old) s
-        → AnswersLine (terms (rules_of sys.now) options) s (Holds R.history R.capacity base options apps.new (C.readings clock.new)) (text_line line) (HoldHistories R.history base apps.new)
-        (T.written out.old) (T.written out.new) result }
-    ensures same_names { names_in apps.new ≡ names_in apps.old }
-    ensures same_snapshots { snapshots_in R.snapshots apps.new ≡ snapshots_in R.snapshots apps.old }
-    ensures recorders_later { Later R.faults apps.old apps.new }
+    ensures answered { Traced (C.readings clock.old) (C.readings clock.new) (λ before after. (base : Histories) (options : Options) (s : State) (line : List ℕ) → request_in sys.now line ≡ asks app command.now → Holds R.history R.capacity base options apps.old before s
+        → AnswersLine (terms (rules_of sys.now) options) s (Holds R.history R.capacity base options apps.new after) (text_line line) (HoldHistories R.history base apps.new)
+        (T.written out.old) (T.written out.new) result) }
+    ensures same { AllStay R.snapshots R.faults apps.old apps.new }
     ensures out_later { T.faults out.old ≤ T.faults out.new }
     ensures sink { IsErrOf result Stop.Sink → Rose (T.faults out.old) (T.faults out.new) }
     ensures recorder { IsErrOf result (Stop.Fault RunFault.Recorder) → SomeRose R.faults apps.old apps.new }
@@ -211,12 +208,10 @@ fn answer_line<T: Sink, R: ProcessRecorder, C: Clock>(
     line: &[u8],
 ) -> Result<(), Stop>
     requires pair { IsOnlyPair sys.now (names_in apps.old) pair.now }
-    ensures answered { (base : Histories) (options : Options) (s : State) → Holds R.history R.capacity base options apps.old (C.readings clock.old) s
-        → AnswersLine (terms (rules_of sys.now) options) s (Holds R.history R.capacity base options apps.new (C.readings clock.new)) (text_line line.now) (HoldHistories R.history base apps.new)
-        (T.written out.old) (T.written out.new) result }
-    ensures same_names { names_in apps.new ≡ names_in apps.old }
-    ensures same_snapshots { snapshots_in R.snapshots apps.new ≡ snapshots_in R.snapshots apps.old }
-    ensures recorders_later { Later R.faults apps.old apps.new }
+    ensures answered { Traced (C.readings clock.old) (C.readings clock.new) (λ before after. (base : Histories) (options : Options) (s : State) → Holds R.history R.capacity base options apps.old before s
+        → AnswersLine (terms (rules_of sys.now) options) s (Holds R.history R.capacity base options apps.new after) (text_line line.now) (HoldHistories R.history base apps.new)
+        (T.written out.old) (T.written out.new) result) }
+    ensures same { AllStay R.snapshots R.faults apps.old apps.new }
     ensures out_later { T.faults out.old ≤ T.faults out.new }
     ensures sink { IsErrOf result Stop.Sink → Rose (T.faults out.old) (T.faults out.new) }
     ensures recorder { IsErrOf result (Stop.Fault RunFault.Recorder) → SomeRose R.faults apps.old apps.new }
@@ -243,22 +238,18 @@ fn turn<S: Source, T: Sink, R: ProcessRecorder, C: Clock>(
     requires clear { fault_of lines.old ≡ None }
     requires ends { EndsRightly S.left lines.old }
     requires pair { IsOnlyPair sys.now (names_in apps.old) pair.now }
-    ensures turned { (base : Histories) (options : Options) (s : State) (ls : List Line) → Holds R.history R.capacity base options apps.old (C.readings clock.old) s → lines_left S.left lines.old ≡ Some ls
-        → TakesTurn (terms (rules_of sys.now) options) s (Holds R.history R.capacity base options apps.new (C.readings clock.new)) ls (lines_left S.left lines.new) (HoldHistories R.history base apps.new)
-        (T.written out.old) (T.written out.new) result }
-    ensures ends { EndsRightly S.left lines.new }
-    ensures uses { OnOk result (UsesTold (unread_of S.left lines.old) (unread_of S.left lines.new) (has_ended lines.new)) }
+    ensures turned { LinesTraced S.left lines.old lines.new (C.readings clock.old) (C.readings clock.new) (λ a b before after. ((base : Histories) (options : Options) (s : State) → Holds R.history R.capacity base options apps.old before s
+        → TakesTurn (terms (rules_of sys.now) options) s (Holds R.history R.capacity base options apps.new after) (lines_from lines.old a) (lines_from lines.new b) (HoldHistories R.history base apps.new)
+        (T.written out.old) (T.written out.new) result)
+        × OnOk result (UsesSome a b (has_ended lines.new))
+        × (IsErrOf result Stop.Read → LeavesUnended a b)) }
     ensures not_ended { IsErrOf result Stop.Read → has_ended lines.old ≡ false }
-    ensures unended { IsErrOf result Stop.Read → EndsUnended (unread_of S.left lines.old) (S.left (source_of lines.new).now) }
-    ensures bound { TakesAtMost (S.left (source_of lines.old).now) (S.left (source_of lines.new).now) (may_take lines.old) (may_take lines.new) }
-    ensures same_reference { (source_of lines.new).ghost_name ≡ (source_of lines.old).ghost_name }
+    ensures left { IsErrOf result Stop.Read → (b : List ℕ) → MayHold (S.left (source_of lines.new).now) b → MayHaveLeft S.left lines.new b }
+    ensures lines { LinesStay S.left S.faults lines.old lines.new }
     ensures room { OnOk result (room_of lines.new < room_of lines.old) }
     ensures clear { OnOk result (fault_of lines.new ≡ None) }
-    ensures lines_later { S.faults (source_of lines.old).now ≤ S.faults (source_of lines.new).now }
     ensures out_later { T.faults out.old ≤ T.faults out.new }
-    ensures same_names { names_in apps.new ≡ names_in apps.old }
-    ensures same_snapshots { snapshots_in R.snapshots apps.new ≡ snapshots_in R.snapshots apps.old }
-    ensures recorders_later { Later R.faults apps.old apps.new }
+    ensures same { AllStay R.snapshots R.faults apps.old apps.new }
     ensures read { IsErrOf result Stop.Read → Rose (S.faults (source_of lines.old).now) (S.faults (source_of lines.new).now) }
     ensures sink { IsErrOf result Stop.Sink → Rose (T.faults out.old) (T.faults out.new) }
     ensures recorder { IsErrOf result (Stop.Fault RunFault.Recorder) → SomeRose R.faults apps.old apps.new }
@@ -287,17 +278,13 @@ fn answer_all<S: Source, T: Sink, R: ProcessRecorder, C: Clock>(
     requires ends { EndsRightly S.left lines.old }
     requires room { room_of lines.old < 2 ^ 63 }
     requires pair { IsOnlyPair sys.now (names_in apps.old) pair.now }
-    ensures answered { (base : Histories) (options : Options) (s n : State) (ls : List Line) (u : Option (List ℕ)) → Begun (terms (rules_of sys.now) options) s n ls u (T.written out.old) → Holds R.history R.capacity base options apps.old (C.readings clock.old) n
-        → lines_left S.left lines.old ≡ Some ls
-        → Serves (terms (rules_of sys.now) options) s (Holds R.history R.capacity base options apps.new (C.readings clock.new)) ls result.0 result.1 (HoldHistories R.history base apps.new) u (T.written out.new) }
-    ensures taken { (bytes : List ℕ) → unread_of S.left lines.old ≡ Some bytes → result.0 ≡ Stop.Read → Taken bytes result.1 (S.left (source_of lines.new).now) }
-    ensures bound { TakesAtMost (S.left (source_of lines.old).now) (S.left (source_of lines.new).now) (may_take lines.old) (may_take lines.new) }
-    ensures same_reference { (source_of lines.new).ghost_name ≡ (source_of lines.old).ghost_name }
-    ensures lines_later { S.faults (source_of lines.old).now ≤ S.faults (source_of lines.new).now }
+    ensures answered { LinesTraced S.left lines.old lines.new (C.readings clock.old) (C.readings clock.new) (λ a b before after. ((base : Histories) (options : Options) (s n : State) (u : Option (List ℕ)) → Begun (terms (rules_of sys.now) options) s n u (T.written out.old) → Holds R.history R.capacity base options apps.old before n
+        → Serves (terms (rules_of sys.now) options) s (Holds R.history R.capacity base options apps.new after) (lines_from lines.old a) result.0 result.1 (HoldHistories R.history base apps.new) u (T.written out.new))
+        × (result.0 ≡ Stop.Read → Taken a result.1 b)) }
+    ensures left { result.0 ≡ Stop.Read → (b : List ℕ) → MayHold (S.left (source_of lines.new).now) b → MayHaveLeft S.left lines.new b }
+    ensures lines { LinesStay S.left S.faults lines.old lines.new }
     ensures out_later { T.faults out.old ≤ T.faults out.new }
-    ensures same_names { names_in apps.new ≡ names_in apps.old }
-    ensures same_snapshots { snapshots_in R.snapshots apps.new ≡ snapshots_in R.snapshots apps.old }
-    ensures recorders_later { Later R.faults apps.old apps.new }
+    ensures same { AllStay R.snapshots R.faults apps.old apps.new }
     ensures read { result.0 ≡ Stop.Read → Rose (S.faults (source_of lines.old).now) (S.faults (source_of lines.new).now) }
     ensures sink { result.0 ≡ Stop.Sink → Rose (T.faults out.old) (T.faults out.new) }
     ensures recorder { result.0 ≡ Stop.Fault RunFault.Recorder → SomeRose R.faults apps.old apps.new }
@@ -328,17 +315,14 @@ pub fn serve<S: Source, T: Sink, R: ProcessRecorder, C: Clock>(
     requires room { room_of lines.old < 2 ^ 63 }
     requires pair { IsOnlyPair sys.now (names_in apps.old) pair.now }
     requires prompted { prompted.now ≡ leaders_of (rules_of sys.now).pairs }
-    ensures served { (base : Histories) (options : Options) (s : State) (ls : List Line) → Holds R.history R.capacity base options apps.old (C.readings clock.old) s → lines_left S.left lines.old ≡ Some ls
-        → Serves (terms (rules_of sys.now) options) s (Holds R.history R.capacity base options apps.new (C.readings clock.new)) ls result.0 result.1 (HoldHistories R.history base apps.new)
-        (T.written out.old) (T.written out.new) }
-    ensures taken { (bytes : List ℕ) → unread_of S.left lines.old ≡ Some bytes → result.0 ≡ Stop.Read → Taken bytes result.1 (S.left (source_of lines.new).now) }
-    ensures bound { TakesAtMost (S.left (source_of lines.old).now) (S.left (source_of lines.new).now) (may_take lines.old) (may_take lines.new) }
-    ensures same_reference { (source_of lines.new).ghost_name ≡ (source_of lines.old).ghost_name }
-    ensures lines_later { S.faults (source_of lines.old).now ≤ S.faults (source_of lines.new).now }
+    ensures served { LinesTraced S.left lines.old lines.new (C.readings clock.old) (C.readings clock.new) (λ a b before after. ((base : Histories) (options : Options) (s : State) → Holds R.history R.capacity base options apps.old before s
+        → Serves (terms (rules_of sys.now) options) s (Holds R.history R.capacity base options apps.new after) (lines_from lines.old a) result.0 result.1 (HoldHistories R.history base apps.new)
+        (T.written out.old) (T.written out.new))
+        × (result.0 ≡ Stop.Read → Taken a result.1 b)) }
+    ensures left { result.0 ≡ Stop.Read → (b : List ℕ) → MayHold (S.left (source_of lines.new).now) b → MayHaveLeft S.left lines.new b }
+    ensures lines { LinesStay S.left S.faults lines.old lines.new }
     ensures out_later { T.faults out.old ≤ T.faults out.new }
-    ensures same_names { names_in apps.new ≡ names_in apps.old }
-    ensures same_snapshots { snapshots_in R.snapshots apps.new ≡ snapshots_in R.snapshots apps.old }
-    ensures recorders_later { Later R.faults apps.old apps.new }
+    ensures same { AllStay R.snapshots R.faults apps.old apps.new }
     ensures read { result.0 ≡ Stop.Read → Rose (S.faults (source_of lines.old).now) (S.faults (source_of lines.new).now) }
     ensures sink { result.0 ≡ Stop.Sink → Rose (T.faults out.old) (T.faults out.new) }
     ensures recorder { result.0 ≡ Stop.Fault RunFault.Recorder → SomeRose R.faults apps.old apps.new }

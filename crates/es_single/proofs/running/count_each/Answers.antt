@@ -1,7 +1,7 @@
 use Rattle.std.proofs.Common.{◌≡◌, Some, slice_get, ◌<◌, ◌-◌, ◌∙◌, suc, length, get_or, slice_set, refl, sym, ap, subst, arith, Err}
 use Rattle.es_process.specs.declared.faults.RunFault.TheVariants as fault
 use Rattle.es_process.specs.Standing.{AreDistinct, names_in}
-use Rattle.es_process.proofs.HoldsLemmas.{histories-set, name-at, names-kept, snapshots-kept, later-set, later-then, rose-set, rose-then}
+use Rattle.es_process.proofs.HoldsLemmas.{histories-set, name-at, all-set, all-then, rose-set, rose-then}
 use Rattle.es_process.proofs.SetLemmas.{get-same}
 use Rattle.es_single.proofs.CommandLemmas.{get-below, get-there}
 use Rattle.es_single.proofs.CountLemmas.{counted-more}
@@ -10,50 +10,38 @@ use Rattle.es_single.proofs.running.count_each.Goals as goal
 pub loop-place-preserved : goal.loop-place-preserved
 loop-place-preserved g c =
     let below : c.loop-place.place - 1 < length c.loop-place.apps = omega (arith, c.loop-place.invariant.within, c.loop-place-test.true) in
-    let distinct = subst AreDistinct (sym c.loop-place.invariant.same_names) c.requires.distinct in
+    let distinct = subst AreDistinct (sym c.loop-place.invariant.same.names) c.requires.distinct in
     let at = (get-there c.loop-place.apps (c.loop-place.place - 1) c.index-apps-place.result below) in
     record {
       within = let there : (c.loop-place.place - 1) < length (slice_set c.loop-place.apps (c.loop-place.place - 1) c.count_one.new.app) = get-below _ (c.loop-place.place - 1) c.count_one.new.app (get-same c.loop-place.apps (c.loop-place.place - 1) c.count_one.new.app (get_or c.loop-place.apps (c.loop-place.place - 1) c.index-apps-place.result) at) in omega (arith, there);
-      same_names = names-kept c.loop-place.apps distinct (c.loop-place.place - 1) (get_or c.loop-place.apps (c.loop-place.place - 1) c.index-apps-place.result) c.count_one.new.app (get-there c.loop-place.apps (c.loop-place.place - 1) c.index-apps-place.result below) c.count_one.ensures.same.name ∙ c.loop-place.invariant.same_names;
-      same_snapshots = snapshots-kept g.R.AggregateRecorder.snapshots c.loop-place.apps (c.loop-place.place - 1) (get_or c.loop-place.apps (c.loop-place.place - 1) c.index-apps-place.result) c.count_one.new.app (get-there c.loop-place.apps (c.loop-place.place - 1) c.index-apps-place.result below) c.count_one.ensures.same_snapshots ∙ c.loop-place.invariant.same_snapshots;
-      later = later-then g.R.AggregateRecorder.faults _ _ _ c.loop-place.invariant.later (later-set g.R.AggregateRecorder.faults c.loop-place.apps (c.loop-place.place - 1) (get_or c.loop-place.apps (c.loop-place.place - 1) c.index-apps-place.result) c.count_one.new.app (get-there c.loop-place.apps (c.loop-place.place - 1) c.index-apps-place.result below) c.count_one.ensures.later);
-      same = λ base h held.
-          let now = c.loop-place.invariant.same base h held in
-          histories-set c.loop-place.apps distinct (c.loop-place.place - 1) (get_or c.loop-place.apps (c.loop-place.place - 1) c.index-apps-place.result) c.count_one.new.app (get-there c.loop-place.apps (c.loop-place.place - 1) c.index-apps-place.result below) c.count_one.ensures.same.name g.R.AggregateRecorder.history base h h now (c.count_one.ensures.same.told ∙ now.each (c.loop-place.place - 1) (get_or c.loop-place.apps (c.loop-place.place - 1) c.index-apps-place.result) (get-there c.loop-place.apps (c.loop-place.place - 1) c.index-apps-place.result below)) (λ n other. refl);
+      same = all-then c.loop-place.invariant.same (all-set c.loop-place.apps distinct (c.loop-place.place - 1) (get_or c.loop-place.apps (c.loop-place.place - 1) c.index-apps-place.result) c.count_one.new.app (get-there c.loop-place.apps (c.loop-place.place - 1) c.index-apps-place.result below) c.count_one.ensures.same.stays);
+      holds = λ base h held.
+          let now = c.loop-place.invariant.holds base h held in
+          histories-set c.loop-place.apps distinct (c.loop-place.place - 1) (get_or c.loop-place.apps (c.loop-place.place - 1) c.index-apps-place.result) c.count_one.new.app (get-there c.loop-place.apps (c.loop-place.place - 1) c.index-apps-place.result below) c.count_one.ensures.same.stays.name g.R.AggregateRecorder.history base h h now (c.count_one.ensures.same.told ∙ now.each (c.loop-place.place - 1) (get_or c.loop-place.apps (c.loop-place.place - 1) c.index-apps-place.result) (get-there c.loop-place.apps (c.loop-place.place - 1) c.index-apps-place.result below)) (λ n other. refl);
       counted = λ base h held.
-          let now = c.loop-place.invariant.same base h held in
+          let now = c.loop-place.invariant.holds base h held in
           let next : c.loop-place.place ≡ suc (c.loop-place.place - 1) = omega (arith, c.loop-place-test.true) in
           counted-more (λ n. length (h n)) (names_in c.args.apps.now) c.loop-place.place (c.loop-place.place - 1) (get_or c.loop-place.apps (c.loop-place.place - 1) c.index-apps-place.result).name c.loop-place.counts c.count_one.new.counts next
-          (subst (λ ns. slice_get ns (c.loop-place.place - 1) ≡ Some (get_or c.loop-place.apps (c.loop-place.place - 1) c.index-apps-place.result).name) c.loop-place.invariant.same_names (name-at c.loop-place.apps (c.loop-place.place - 1) (get_or c.loop-place.apps (c.loop-place.place - 1) c.index-apps-place.result) at))
+          (subst (λ ns. slice_get ns (c.loop-place.place - 1) ≡ Some (get_or c.loop-place.apps (c.loop-place.place - 1) c.index-apps-place.result).name) c.loop-place.invariant.same.names (name-at c.loop-place.apps (c.loop-place.place - 1) (get_or c.loop-place.apps (c.loop-place.place - 1) c.index-apps-place.result) at))
           (c.loop-place.invariant.counted base h held) ((c.in-Ok.ensures {u = tt}).counted (h (get_or c.loop-place.apps (c.loop-place.place - 1) c.index-apps-place.result).name) (now.each (c.loop-place.place - 1) (get_or c.loop-place.apps (c.loop-place.place - 1) c.index-apps-place.result) at));
     }
+
+pub returns-in-Err-clause-holds : goal.returns-in-Err-clause-holds
+returns-in-Err-clause-holds g c =
+    let below : c.loop-place.place - 1 < length c.loop-place.apps = omega (arith, c.loop-place.invariant.within, c.loop-place-test.true) in
+    let distinct = subst AreDistinct (sym c.loop-place.invariant.same.names) c.requires.distinct in
+    λ base h held.
+    let now = c.loop-place.invariant.holds base h held in
+    histories-set c.loop-place.apps distinct (c.loop-place.place - 1) (get_or c.loop-place.apps (c.loop-place.place - 1) c.index-apps-place.result) c.count_one.new.app (get-there c.loop-place.apps (c.loop-place.place - 1) c.index-apps-place.result below) c.count_one.ensures.same.stays.name g.R.AggregateRecorder.history base h h now (c.count_one.ensures.same.told ∙ now.each (c.loop-place.place - 1) (get_or c.loop-place.apps (c.loop-place.place - 1) c.index-apps-place.result) (get-there c.loop-place.apps (c.loop-place.place - 1) c.index-apps-place.result below)) (λ n other. refl)
 
 pub returns-in-Err-clause-same : goal.returns-in-Err-clause-same
 returns-in-Err-clause-same g c =
     let below : c.loop-place.place - 1 < length c.loop-place.apps = omega (arith, c.loop-place.invariant.within, c.loop-place-test.true) in
-    let distinct = subst AreDistinct (sym c.loop-place.invariant.same_names) c.requires.distinct in
-    λ base h held.
-    let now = c.loop-place.invariant.same base h held in
-    histories-set c.loop-place.apps distinct (c.loop-place.place - 1) (get_or c.loop-place.apps (c.loop-place.place - 1) c.index-apps-place.result) c.count_one.new.app (get-there c.loop-place.apps (c.loop-place.place - 1) c.index-apps-place.result below) c.count_one.ensures.same.name g.R.AggregateRecorder.history base h h now (c.count_one.ensures.same.told ∙ now.each (c.loop-place.place - 1) (get_or c.loop-place.apps (c.loop-place.place - 1) c.index-apps-place.result) (get-there c.loop-place.apps (c.loop-place.place - 1) c.index-apps-place.result below)) (λ n other. refl)
-
-pub returns-in-Err-clause-same_names : goal.returns-in-Err-clause-same_names
-returns-in-Err-clause-same_names g c =
-    let below : c.loop-place.place - 1 < length c.loop-place.apps = omega (arith, c.loop-place.invariant.within, c.loop-place-test.true) in
-    let distinct = subst AreDistinct (sym c.loop-place.invariant.same_names) c.requires.distinct in
-    names-kept c.loop-place.apps distinct (c.loop-place.place - 1) (get_or c.loop-place.apps (c.loop-place.place - 1) c.index-apps-place.result) c.count_one.new.app (get-there c.loop-place.apps (c.loop-place.place - 1) c.index-apps-place.result below) c.count_one.ensures.same.name ∙ c.loop-place.invariant.same_names
-
-pub returns-in-Err-clause-same_snapshots : goal.returns-in-Err-clause-same_snapshots
-returns-in-Err-clause-same_snapshots g c =
-    let below : c.loop-place.place - 1 < length c.loop-place.apps = omega (arith, c.loop-place.invariant.within, c.loop-place-test.true) in
-    snapshots-kept g.R.AggregateRecorder.snapshots c.loop-place.apps (c.loop-place.place - 1) (get_or c.loop-place.apps (c.loop-place.place - 1) c.index-apps-place.result) c.count_one.new.app (get-there c.loop-place.apps (c.loop-place.place - 1) c.index-apps-place.result below) c.count_one.ensures.same_snapshots ∙ c.loop-place.invariant.same_snapshots
-
-pub returns-in-Err-clause-later : goal.returns-in-Err-clause-later
-returns-in-Err-clause-later g c =
-    let below : c.loop-place.place - 1 < length c.loop-place.apps = omega (arith, c.loop-place.invariant.within, c.loop-place-test.true) in
-    later-then g.R.AggregateRecorder.faults _ _ _ c.loop-place.invariant.later (later-set g.R.AggregateRecorder.faults c.loop-place.apps (c.loop-place.place - 1) (get_or c.loop-place.apps (c.loop-place.place - 1) c.index-apps-place.result) c.count_one.new.app (get-there c.loop-place.apps (c.loop-place.place - 1) c.index-apps-place.result below) c.count_one.ensures.later)
+    let distinct = subst AreDistinct (sym c.loop-place.invariant.same.names) c.requires.distinct in
+    all-then c.loop-place.invariant.same (all-set c.loop-place.apps distinct (c.loop-place.place - 1) (get_or c.loop-place.apps (c.loop-place.place - 1) c.index-apps-place.result) c.count_one.new.app (get-there c.loop-place.apps (c.loop-place.place - 1) c.index-apps-place.result below) c.count_one.ensures.same.stays)
 
 pub returns-in-Err-clause-recorder : goal.returns-in-Err-clause-recorder
 returns-in-Err-clause-recorder g c = λ is.
     let below : c.loop-place.place - 1 < length c.loop-place.apps = omega (arith, c.loop-place.invariant.within, c.loop-place-test.true) in
     let e : c.in-Err.fault ≡ fault.Recorder = cc is in
-    rose-then g.R.AggregateRecorder.faults _ _ _ c.loop-place.invariant.later (rose-set g.R.AggregateRecorder.faults c.loop-place.apps (c.loop-place.place - 1) (get_or c.loop-place.apps (c.loop-place.place - 1) c.index-apps-place.result) c.count_one.new.app (get-there c.loop-place.apps (c.loop-place.place - 1) c.index-apps-place.result below) ((c.in-Err.ensures {u = tt}).recorder (ap Err e)))
+    rose-then g.R.AggregateRecorder.faults _ _ _ c.loop-place.invariant.same.later (rose-set g.R.AggregateRecorder.faults c.loop-place.apps (c.loop-place.place - 1) (get_or c.loop-place.apps (c.loop-place.place - 1) c.index-apps-place.result) c.count_one.new.app (get-there c.loop-place.apps (c.loop-place.place - 1) c.index-apps-place.result below) ((c.in-Err.ensures {u = tt}).recorder (ap Err e)))

@@ -6,30 +6,47 @@ use Rattle.es_single.proofs.ServesLemmas.{drained, drain_failed, not_drained}
 use Rattle.es_single.proofs.serve.drain_after.Goals as goal
 
 pub returns-in-Ok-clause-drained : goal.returns-in-Ok-clause-drained
-returns-in-Ok-clause-drained g c = λ base options s u held.
-    drained (terms (rules_of c.args.sys.now) options) s _ (λ n. Unit {0}) c.args.prompted.now c.args.reply.now u tt (ap (λ r. prompted_by r c.args.prompted.now) c.in-Accepted.is) ((c.in-Ok.ensures {u = tt}).drained base options s u held)
+returns-in-Ok-clause-drained g c = λ after may.
+    let x = (c.in-Ok.ensures {u = tt}).drained after may in (
+      x.0,
+      x.1,
+      λ base options s u held.
+          drained (terms (rules_of c.args.sys.now) options) s _ (λ n. Unit {0}) c.args.prompted.now c.args.reply.now u tt (ap (λ r. prompted_by r c.args.prompted.now) c.in-Accepted.is) (x.2 base options s u held),
+    )
 
 pub returns-in-Err-clause-drained : goal.returns-in-Err-clause-drained
-returns-in-Err-clause-drained g c = λ base options s u held.
-    drain_failed (terms (rules_of c.args.sys.now) options) s (λ x. Unit {0}) _ c.args.prompted.now c.args.reply.now u c.in-Err.fault (ap (λ r. prompted_by r c.args.prompted.now) c.in-Accepted.is) ((c.in-Err.ensures {u = tt}).drained base options s u held)
+returns-in-Err-clause-drained g c = λ after may.
+    let x = (c.in-Err.ensures {u = tt}).drained after may in (
+      x.0,
+      x.1,
+      λ base options s u held.
+          drain_failed (terms (rules_of c.args.sys.now) options) s (λ n. Unit {0}) _ c.args.prompted.now c.args.reply.now u c.in-Err.fault (ap (λ r. prompted_by r c.args.prompted.now) c.in-Accepted.is) (x.2 base options s u held),
+    )
 
 pub returns-in-Refused-clause-drained : goal.returns-in-Refused-clause-drained
-returns-in-Refused-clause-drained g c = λ base options s u held. not_drained (terms (rules_of c.args.sys.now) options) s _ c.args.prompted.now c.args.reply.now u (ap (λ r. prompted_by r c.args.prompted.now) c.in-Refused.is) held
+returns-in-Refused-clause-drained g c = λ after may.
+    (after, may, λ base options s u held. not_drained (terms (rules_of c.args.sys.now) options) s _ c.args.prompted.now c.args.reply.now u (ap (λ r. prompted_by r c.args.prompted.now) c.in-Refused.is) held)
 
 pub returns-in-Syntax-clause-drained : goal.returns-in-Syntax-clause-drained
-returns-in-Syntax-clause-drained g c = λ base options s u held. not_drained (terms (rules_of c.args.sys.now) options) s _ c.args.prompted.now c.args.reply.now u (ap (λ r. prompted_by r c.args.prompted.now) c.in-Syntax.is) held
+returns-in-Syntax-clause-drained g c = λ after may.
+    (after, may, λ base options s u held. not_drained (terms (rules_of c.args.sys.now) options) s _ c.args.prompted.now c.args.reply.now u (ap (λ r. prompted_by r c.args.prompted.now) c.in-Syntax.is) held)
 
 pub returns-in-Long-clause-drained : goal.returns-in-Long-clause-drained
-returns-in-Long-clause-drained g c = λ base options s u held. not_drained (terms (rules_of c.args.sys.now) options) s _ c.args.prompted.now c.args.reply.now u (ap (λ r. prompted_by r c.args.prompted.now) c.in-Long.is) held
+returns-in-Long-clause-drained g c = λ after may.
+    (after, may, λ base options s u held. not_drained (terms (rules_of c.args.sys.now) options) s _ c.args.prompted.now c.args.reply.now u (ap (λ r. prompted_by r c.args.prompted.now) c.in-Long.is) held)
 
 pub returns-in-Conflict-clause-drained : goal.returns-in-Conflict-clause-drained
-returns-in-Conflict-clause-drained g c = λ base options s u held. not_drained (terms (rules_of c.args.sys.now) options) s _ c.args.prompted.now c.args.reply.now u (ap (λ r. prompted_by r c.args.prompted.now) c.in-Conflict.is) held
+returns-in-Conflict-clause-drained g c = λ after may.
+    (after, may, λ base options s u held. not_drained (terms (rules_of c.args.sys.now) options) s _ c.args.prompted.now c.args.reply.now u (ap (λ r. prompted_by r c.args.prompted.now) c.in-Conflict.is) held)
 
 pub returns-in-Unreadable-clause-drained : goal.returns-in-Unreadable-clause-drained
-returns-in-Unreadable-clause-drained g c = λ base options s u held. not_drained (terms (rules_of c.args.sys.now) options) s _ c.args.prompted.now c.args.reply.now u (ap (λ r. prompted_by r c.args.prompted.now) c.in-Unreadable.is) held
+returns-in-Unreadable-clause-drained g c = λ after may.
+    (after, may, λ base options s u held. not_drained (terms (rules_of c.args.sys.now) options) s _ c.args.prompted.now c.args.reply.now u (ap (λ r. prompted_by r c.args.prompted.now) c.in-Unreadable.is) held)
 
 pub returns-in-Unknown-clause-drained : goal.returns-in-Unknown-clause-drained
-returns-in-Unknown-clause-drained g c = λ base options s u held. not_drained (terms (rules_of c.args.sys.now) options) s _ c.args.prompted.now c.args.reply.now u (ap (λ r. prompted_by r c.args.prompted.now) c.in-Unknown.is) held
+returns-in-Unknown-clause-drained g c = λ after may.
+    (after, may, λ base options s u held. not_drained (terms (rules_of c.args.sys.now) options) s _ c.args.prompted.now c.args.reply.now u (ap (λ r. prompted_by r c.args.prompted.now) c.in-Unknown.is) held)
 
 pub returns-in-Kind-clause-drained : goal.returns-in-Kind-clause-drained
-returns-in-Kind-clause-drained g c = λ base options s u held. not_drained (terms (rules_of c.args.sys.now) options) s _ c.args.prompted.now c.args.reply.now u (ap (λ r. prompted_by r c.args.prompted.now) c.in-Kind.is) held
+returns-in-Kind-clause-drained g c = λ after may.
+    (after, may, λ base options s u held. not_drained (terms (rules_of c.args.sys.now) options) s _ c.args.prompted.now c.args.reply.now u (ap (λ r. prompted_by r c.args.prompted.now) c.in-Kind.is) held)

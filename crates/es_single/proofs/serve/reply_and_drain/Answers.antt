@@ -1,3 +1,4 @@
+use Rattle.std.proofs.Common.{Some}
 use Rattle.es_process.specs.SystemRules.{rules_of}
 use Rattle.es_process.specs.Terms.{terms}
 use Rattle.es_process.specs.Standing.{Holds, HoldHistories}
@@ -7,10 +8,19 @@ use Rattle.es_single.proofs.ServesLemmas.{replied, unreplied}
 use Rattle.es_single.proofs.serve.reply_and_drain.Goals as goal
 
 pub returns-in-Ok-clause-replied : goal.returns-in-Ok-clause-replied
-returns-in-Ok-clause-replied g c = λ base options s held.
-    replied (terms (rules_of c.args.sys.now) options) s _ _ _ c.args.reply.now (g.T.Sink.written c.args.out.now) (g.T.Sink.written c.say.new.out) c.drain_after.result (c.in-Ok.ensures {u = tt}).said
-    (c.drain_after.ensures.drained base options s (g.T.Sink.written c.say.new.out) held)
+returns-in-Ok-clause-replied g c = λ after may.
+    let x = c.drain_after.ensures.drained after may in (
+      x.0,
+      x.1,
+      λ base options s held.
+          replied (terms (rules_of c.args.sys.now) options) s _ _ _ c.args.reply.now (g.T.Sink.written c.args.out.now) (g.T.Sink.written c.say.new.out) c.drain_after.result (c.in-Ok.ensures {u = tt}).said
+          (x.2 base options s (g.T.Sink.written c.say.new.out) held),
+    )
 
 pub returns-in-Err-clause-replied : goal.returns-in-Err-clause-replied
-returns-in-Err-clause-replied g c = λ base options s held.
-    unreplied (terms (rules_of c.args.sys.now) options) s (Holds g.R.AggregateRecorder.history g.R.AggregateRecorder.capacity base options c.args.apps.now (g.C.Clock.readings c.args.clock.now)) (HoldHistories g.R.AggregateRecorder.history base c.args.apps.now) (prompted_by c.args.reply.now c.args.prompted.now) c.args.reply.now _ _ c.in-Err.stop (c.in-Err.ensures {u = tt}).said (held-histories _ _ base options _ _ s held)
+returns-in-Err-clause-replied g c = λ after may. (
+  after,
+  may,
+  λ base options s held.
+      unreplied (terms (rules_of c.args.sys.now) options) s (Holds g.R.AggregateRecorder.history g.R.AggregateRecorder.capacity base options c.args.apps.now (Some after)) (HoldHistories g.R.AggregateRecorder.history base c.args.apps.now) (prompted_by c.args.reply.now c.args.prompted.now) c.args.reply.now _ _ c.in-Err.stop (c.in-Err.ensures {u = tt}).said (held-histories _ _ base options _ _ s held),
+)

@@ -1,26 +1,91 @@
-use Rattle.std.proofs.Common.{refl}
-use Rattle.es_model.specs.Lines.{long}
+use Rattle.std.proofs.Common.{refl, Some, IfErr, subst, inl, inr}
+use Rattle.es_single.specs.declared.serve.Stop.TheVariants as stop
+use Rattle.es_single.specs.Serves.{IsAnswering, IsSaying}
+use Rattle.es_model.specs.Lines.{text, long, lines_of}
 use Rattle.es_lines.specs.declared.replies.Reply.TheVariants.{Long}
+use Rattle.es_io.specs.LinesLeft.{has_ended}
+use Rattle.es_io.specs.Remains.{lines_from}
 use Rattle.es_process.specs.SystemRules.{rules_of}
 use Rattle.es_process.specs.Terms.{terms}
 use Rattle.es_process.specs.Standing.{Holds, HoldHistories}
 use Rattle.es_process.proofs.HoldsLemmas.{held-histories}
+use Rattle.es_single.specs.Taken.{UsesSome}
 use Rattle.es_single.proofs.ServesLemmas.{said_only, too_long}
-use Rattle.es_single.proofs.LoopLemmas.{line_turned, long_turned}
-use Rattle.es_single.proofs.TakenLemmas.{on_ok, line_used, long_used}
+use Rattle.es_single.proofs.LoopLemmas.{turned}
+use Rattle.es_single.proofs.TakenLemmas.{on_ok, some_bytes}
 use Rattle.es_single.proofs.serve.turn.Goals as goal
 
+not_said : {P : Type 0} → IsSaying stop.Read → P
+not_said (inl is) = absurd (cc is)
+not_said (inr is) = absurd (cc is)
+
 pub returns-in-Ok-Line-clause-turned : goal.returns-in-Ok-Line-clause-turned
-returns-in-Ok-Line-clause-turned g c = λ base options s ls held told.
-    line_turned (terms (rules_of c.args.sys.now) options) s _ ls (_) _ c.in-Ok-Line.line _ _ _ c.answer_line.result told (rw c.in-Ok-Line.field-0-is at (c.in-Ok-Line.ensures {u = tt}).next c.requires.ends) (rw c.as_slice.ensures at (c.answer_line.ensures.answered base options s held))
+returns-in-Ok-Line-clause-turned g c = λ b after left may.
+    let x = c.answer_line.ensures.answered after may in
+    let y = rw c.in-Ok-Line.field-0-is at ((c.in-Ok-Line.ensures {u = tt}).step) in
+    let z = y b left in
+    let used : UsesSome z.before b (has_ended c.next.new.self) = (some_bytes (lines_of c.args.lines.now.line_limit c.args.lines.now.room) refl z.before (text c.in-Ok-Line.line) (lines_from c.next.new.self b) z.first, z.uses) in (
+      z.before,
+      x.0,
+      z.may,
+      x.1,
+      (
+        λ base options s held. turned (terms (rules_of c.args.sys.now) options) s _ (lines_from c.args.lines.now z.before) (lines_from c.next.new.self b) (text c.in-Ok-Line.line) _ _ _ c.answer_line.result (λ is. absurd (cc is)) z.first (rw c.as_slice.ensures at (x.2 base options s held)),
+        on_ok c.answer_line.result used,
+        λ is. absurd (subst (λ r. IfErr r IsAnswering) is c.answer_line.ensures.stops),
+      ),
+    )
 
 pub returns-in-Ok-Long-clause-turned : goal.returns-in-Ok-Long-clause-turned
-returns-in-Ok-Long-clause-turned g c = λ base options s ls held told.
-    long_turned (terms (rules_of c.args.sys.now) options) s _ ls _ _ _ _ _ c.say.result told (rw c.in-Ok-Long.field-0-is at (c.in-Ok-Long.ensures {u = tt}).next c.requires.ends)
-    (said_only (terms (rules_of c.args.sys.now) options) s (Holds g.R.AggregateRecorder.history g.R.AggregateRecorder.capacity base options c.args.apps.now (g.C.Clock.readings c.args.clock.now)) (HoldHistories g.R.AggregateRecorder.history base c.args.apps.now) long Long _ _ c.say.result refl (too_long (terms (rules_of c.args.sys.now) options) s) c.say.ensures.said held (held-histories _ _ base options _ _ s held))
+returns-in-Ok-Long-clause-turned g c = λ b after left may.
+    let y = rw c.in-Ok-Long.field-0-is at ((c.in-Ok-Long.ensures {u = tt}).step) in
+    let z = y b left in
+    let used : UsesSome z.before b (has_ended c.next.new.self) = (some_bytes (lines_of c.args.lines.now.line_limit c.args.lines.now.room) refl z.before long (lines_from c.next.new.self b) z.first, z.uses) in (
+      z.before,
+      after,
+      z.may,
+      may,
+      (
+        λ base options s held.
+            turned (terms (rules_of c.args.sys.now) options) s _ (lines_from c.args.lines.now z.before) (lines_from c.next.new.self b) long _ _ _ c.say.result (λ is. absurd (cc is)) z.first
+            (said_only (terms (rules_of c.args.sys.now) options) s (Holds g.R.AggregateRecorder.history g.R.AggregateRecorder.capacity base options c.args.apps.now (Some after)) (HoldHistories g.R.AggregateRecorder.history base c.args.apps.now) long Long _ _ c.say.result refl (too_long (terms (rules_of c.args.sys.now) options) s) c.say.ensures.said held (held-histories _ _ base options _ _ s held)),
+        on_ok c.say.result used,
+        λ is. not_said (subst (λ r. IfErr r IsSaying) is c.say.ensures.stops),
+      ),
+    )
 
-pub returns-in-Ok-Line-clause-uses : goal.returns-in-Ok-Line-clause-uses
-returns-in-Ok-Line-clause-uses g c = on_ok c.answer_line.result (line_used _ refl _ _ _ _ c.in-Ok-Line.line (rw c.in-Ok-Line.field-0-is at (c.in-Ok-Line.ensures {u = tt}).next c.requires.ends) (rw c.in-Ok-Line.field-0-is at (c.in-Ok-Line.ensures {u = tt}).uses c.requires.ends))
+pub returns-in-Ok-End-clause-turned : goal.returns-in-Ok-End-clause-turned
+returns-in-Ok-End-clause-turned g c = λ b after left may.
+    let y = rw c.in-Ok-End.field-0-is at ((c.in-Ok-End.ensures {u = tt}).step) in
+    let z = y b left in (z.before, after, z.may, may, (λ base options s held. (z.first.0, record { held = held; unwritten = refl }), tt, λ is. absurd (cc is)))
 
-pub returns-in-Ok-Long-clause-uses : goal.returns-in-Ok-Long-clause-uses
-returns-in-Ok-Long-clause-uses g c = on_ok c.say.result (long_used _ refl _ _ _ _ (rw c.in-Ok-Long.field-0-is at (c.in-Ok-Long.ensures {u = tt}).next c.requires.ends) (rw c.in-Ok-Long.field-0-is at (c.in-Ok-Long.ensures {u = tt}).uses c.requires.ends))
+pub returns-in-Ok-Over-clause-turned : goal.returns-in-Ok-Over-clause-turned
+returns-in-Ok-Over-clause-turned g c = λ b after left may.
+    let y = rw c.in-Ok-Over.field-0-is at ((c.in-Ok-Over.ensures {u = tt}).step) in
+    let z = y b left in (z.before, after, z.may, may, (λ base options s held. (z.first.0, record { held = held; unwritten = refl }), tt, λ is. absurd (cc is)))
+
+pub returns-in-Err-Read-clause-turned : goal.returns-in-Err-Read-clause-turned
+returns-in-Err-Read-clause-turned g c = λ b after left may.
+    let z = (c.in-Err-Read.ensures {u = tt}).cut b left in (z.before, after, z.may, may, (λ base options s held. record { held = held; unwritten = refl }, tt, λ is. (z.front, z.parts, z.unended)))
+
+pub returns-in-Err-NoMemory-clause-turned : goal.returns-in-Err-NoMemory-clause-turned
+returns-in-Err-NoMemory-clause-turned g c = λ b after left may.
+    let z = (c.in-Err-NoMemory.ensures {u = tt}).cut b left in (z.before, after, z.may, may, (λ base options s held. inl (refl, record { held = held; unwritten = refl }), tt, λ is. absurd (cc is)))
+
+pub returns-in-Ok-Line-clause-lines : goal.returns-in-Ok-Line-clause-lines
+returns-in-Ok-Line-clause-lines g c = record { source = c.next.ensures.same_reference; bound = c.next.ensures.bound; later = c.next.ensures.later; ends = c.next.ensures.ends c.requires.ends }
+
+pub returns-in-Ok-Long-clause-lines : goal.returns-in-Ok-Long-clause-lines
+returns-in-Ok-Long-clause-lines g c = record { source = c.next.ensures.same_reference; bound = c.next.ensures.bound; later = c.next.ensures.later; ends = c.next.ensures.ends c.requires.ends }
+
+pub returns-in-Ok-End-clause-lines : goal.returns-in-Ok-End-clause-lines
+returns-in-Ok-End-clause-lines g c = record { source = c.next.ensures.same_reference; bound = c.next.ensures.bound; later = c.next.ensures.later; ends = c.next.ensures.ends c.requires.ends }
+
+pub returns-in-Ok-Over-clause-lines : goal.returns-in-Ok-Over-clause-lines
+returns-in-Ok-Over-clause-lines g c = record { source = c.next.ensures.same_reference; bound = c.next.ensures.bound; later = c.next.ensures.later; ends = c.next.ensures.ends c.requires.ends }
+
+pub returns-in-Err-Read-clause-lines : goal.returns-in-Err-Read-clause-lines
+returns-in-Err-Read-clause-lines g c = record { source = c.next.ensures.same_reference; bound = c.next.ensures.bound; later = c.next.ensures.later; ends = c.next.ensures.ends c.requires.ends }
+
+pub returns-in-Err-NoMemory-clause-lines : goal.returns-in-Err-NoMemory-clause-lines
+returns-in-Err-NoMemory-clause-lines g c = record { source = c.next.ensures.same_reference; bound = c.next.ensures.bound; later = c.next.ensures.later; ends = c.next.ensures.ends c.requires.ends }
