@@ -19,7 +19,8 @@ use Rattle.es_lines.specs.declared.ends.End.TheVariants.{Full, Turns, Unreadable
 use Rattle.es_lines.specs.declared.replies.Reply.TheVariants.{Accepted}
 use Rattle.es_process.specs.Answer.{Answer, says, accepts, ends, accept_unless, recording_of, Followed, adds, stops, add_unless, followed_of, followed, options}
 use Rattle.es_process.specs.Decision.{Decision, Logs, events}
-use Rattle.es_process.specs.Leaves.{Adds, Gives, MayAdd, Leaves, MayTake, Records, Takes}
+use Rattle.es_process.specs.inner.Adding.{Adds, Records, Takes}
+use Rattle.es_process.specs.Leaves.{Gives, MayAdd, Leaves, MayTake}
 use Rattle.es_process.specs.SystemRules.{rules_of, decide_entry, decide_event}
 
 may_take : (f : Followed) (h : List Recording) → MayTake f h (Some h)

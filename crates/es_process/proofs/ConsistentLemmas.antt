@@ -11,7 +11,7 @@ use Rattle.es_recorder.specs.Held.{put}
 use Rattle.es_process.specs.Consistent.{Fronts, may_take, next_front, round, rounds, lengths_of, IsGrounded, IsConsistent}
 use Rattle.es_process.specs.Decision.{Rules, logs_of}
 use Rattle.es_process.specs.Follows.{MayCome, ComesNext, Follows}
-use Rattle.es_process.specs.Lawful.{IsLawful}
+use Rattle.es_process.specs.inner.Lawful.{IsLawful}
 use Rattle.es_process.proofs.AmongLemmas.{put-each}
 use Rattle.es_process.proofs.FollowsLemmas.{Grows, Grows-put, logs-grow, slice_get-front, Follows-grows, Follows-opening, Follows-push, Follows-longer}
 

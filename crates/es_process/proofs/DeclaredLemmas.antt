@@ -14,7 +14,7 @@ use Rattle.es_lines.specs.Requests.{Asked, asks, refused as not_asked, request_i
 use Rattle.es_lines.proofs.CanonicalLemmas as canon
 use Rattle.es_lines.proofs.RequestLemmas as request
 use Rattle.es_process.specs.SystemRules.{rules_of, names_of, app_names, in_order, decide_entry, request_of}
-use Rattle.es_process.specs.Lawful.{IsLocal, IsLawful}
+use Rattle.es_process.specs.inner.Lawful.{IsLocal, IsLawful}
 use Rattle.es_process.specs.Requests.{command}
 use Rattle.es_process.specs.Standing.{AreDistinct}
 use Rattle.es_process.proofs.HoldsLemmas.{contains-at}

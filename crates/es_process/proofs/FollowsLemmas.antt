@@ -12,7 +12,7 @@ use Rattle.es_recorder.specs.Held.{put}
 use Rattle.es_recorder.specs.Stable.{IsPrefix}
 use Rattle.es_process.specs.Decision.{Rules, Logs, logs_of}
 use Rattle.es_process.specs.Follows.{MayCome, ComesNext, EachComes, Follows}
-use Rattle.es_process.specs.Lawful.{IsLocal}
+use Rattle.es_process.specs.inner.Lawful.{IsLocal}
 use Rattle.es_process.proofs.AmongLemmas.{put-each}
 
 -- each history is a front of the later one, and each log of the later one

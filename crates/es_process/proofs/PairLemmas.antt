@@ -21,7 +21,7 @@ use Rattle.es_process.specs.declared.faults.RunFault.{RunFault}
 use Rattle.es_process.specs.declared.faults.RunFault.TheVariants as fault
 use Rattle.es_process.specs.Answer.{Followed, adds, stops, followed}
 use Rattle.es_process.specs.Decision.{logs_of}
-use Rattle.es_process.specs.Drains.{trying, FollowsOne, FollowsAll, DrainsLeader}
+use Rattle.es_process.specs.inner.Following.{trying, FollowsOne, FollowsAll, DrainsLeader}
 use Rattle.es_process.specs.Leaves.{MayTake, Processes}
 use Rattle.es_process.specs.SingleThread.{finished, goes_on, turn_at, next_turn, followed_turn, prompt, leaders_of, led_by, is_among, only_adds, does_nothing, records}
 use Rattle.es_process.specs.Standing.{State, Setting, standing, Came, Ended, CutShort, Faulted, IsNextAfter, MayFailToRead}

@@ -22,7 +22,8 @@ use Rattle.es_process.specs.declared.draining.Pair.{Pair}
 use Rattle.es_process.specs.declared.faults.RunFault.{RunFault}
 use Rattle.es_process.specs.Answer.{Options, options, followed}
 use Rattle.es_process.specs.Decision.{logs_of}
-use Rattle.es_process.specs.Drains.{FindsNext, IsPairOf, AreApps, left_of, turns_left}
+use Rattle.es_process.specs.inner.Following.{FindsNext, left_of, turns_left}
+use Rattle.es_process.specs.Drains.{IsPairOf, AreApps}
 use Rattle.es_process.specs.Leaves.{Processes}
 use Rattle.es_process.specs.Standing.{State, Holds, HoldHistories, AreDistinct, IsNextAfter, IsSame, AllStay, SomeRose, names_in}
 use Rattle.es_process.specs.SystemRules.{rules_of}

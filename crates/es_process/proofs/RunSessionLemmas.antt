@@ -21,7 +21,7 @@ use Rattle.es_process.specs.Answer.{Options, Answer, says, accepts, ends, answer
 use Rattle.es_process.specs.Consistent.{IsConsistent}
 use Rattle.es_process.specs.Decision.{Rules, logs_of}
 use Rattle.es_process.specs.Follows.{ComesNext}
-use Rattle.es_process.specs.Lawful.{IsLawful}
+use Rattle.es_process.specs.inner.Lawful.{IsLawful}
 use Rattle.es_process.specs.Requests.{Request, command, no_request}
 use Rattle.es_process.specs.Session.{Answered, IsReading, AnswersLine, AnswersRequest, AreAnswered, lines_in, replies_in, writes_in, accepted_in, if_of, commands_in, is_command, IsOfFirst, IsSession}
 use Rattle.es_process.specs.SingleThread.{Place, Turn, goes_on, turn_of, line_turn, request_turn, command_turn, next_turn, followed_turn, past_line, only_says, does_nothing, prompt, led_by, added_counts, Step, records, writes, Run, IsRun, start, left_by, written_by, as_line}

@@ -12,7 +12,7 @@ use Rattle.es_recorder.specs.Held.{put}
 use Rattle.es_process.specs.Answer.{Options, answer, answer_of, differs, says}
 use Rattle.es_lines.specs.declared.replies.Reply.TheVariants.{Conflict}
 use Rattle.es_process.specs.Decision.{Rules, Logs, logs_of}
-use Rattle.es_process.specs.Lawful.{IsLocal}
+use Rattle.es_process.specs.inner.Lawful.{IsLocal}
 use Rattle.es_process.specs.Requests.{Request, command, no_request}
 use Rattle.es_process.specs.Session.{Answered, IsReading, IsAt, AnswersRequest, AnswersLine, IsLater, AreLater, AreAnswered, if_of, is_command, commands_in, accepted_in}
 use Rattle.es_process.proofs.AmongLemmas.{contains-here, contains-later, put-cases, put-each, same-name, is-same}

@@ -4,7 +4,6 @@ pub mod Decision
 pub mod Drains
 pub mod Faults
 pub mod Follows
-pub mod Lawful
 pub mod Leaves
 pub mod Reached
 pub mod Requests
@@ -14,3 +13,4 @@ pub mod Standing
 pub mod SystemRules
 pub mod Terms
 pub mod Traced
+pub mod inner

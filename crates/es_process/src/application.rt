@@ -17,7 +17,8 @@ ghost use Rattle.es_repo.specs.declared.verdict.Verdict.TheVariants as verdicts;
 ghost use Rattle.es_process.specs.Answer.{recording_of as recording_at, options, differs, followed, followed_of, accept_unless, answer_of};
 ghost use Rattle.es_process.specs.Decision.{Logs};
 ghost use Rattle.es_process.specs.SystemRules.{rules_of, decision_of};
-ghost use Rattle.es_process.specs.Leaves.{Fits, Adds, MayFailToAdd, Leaves, command_answer, readings_after, Processes, Takes, Records, Decides, MayRefuse, IsRecorded, Converts};
+ghost use Rattle.es_process.specs.inner.Adding.{Fits, Adds, Takes, Records, Decides, MayRefuse};
+ghost use Rattle.es_process.specs.Leaves.{MayFailToAdd, Leaves, command_answer, readings_after, Processes, IsRecorded, Converts};
 ghost use Rattle.es_process.specs.Traced.{Traced};
 ghost use Rattle.es_process.specs.Standing.{IsSame, IsSmall, IsNextAfter, MayFailToRead, Stays};
 

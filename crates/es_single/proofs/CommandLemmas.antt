@@ -26,7 +26,7 @@ use Rattle.es_process.specs.Terms.{terms}
 use Rattle.es_process.proofs.AmongLemmas.{put-here, put-other, same-name}
 use Rattle.es_process.proofs.HoldsLemmas.{app-at, held-histories, histories-set, holds-set}
 use Rattle.es_single.specs.declared.serve.Stop.{Stop}
-use Rattle.es_single.specs.Serves.{prompted_by, RepliesAndDrains, AnswersLine, at_line}
+use Rattle.es_single.specs.inner.Serves.{prompted_by, RepliesAndDrains, AnswersLine, at_line}
 use Rattle.es_single.proofs.CountLemmas.{listed-among}
 use Rattle.es_single.proofs.ServesLemmas.{line_answered, line_failed}
 

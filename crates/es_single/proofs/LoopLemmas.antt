@@ -15,7 +15,7 @@ use Rattle.es_process.proofs.SingleThreadLemmas.{Goes-then, Goes-end, written_by
 use Rattle.es_process.proofs.StandingLemmas.{appends_nothing, appends_then, Cut-none, came_cut, came_faulted}
 use Rattle.es_single.specs.declared.serve.Stop.{Stop}
 use Rattle.es_single.specs.declared.serve.Stop.TheVariants as stop
-use Rattle.es_single.specs.Serves.{at_line, AnswersLine, TakesTurn, NoneOver, whole, served, Answered, Begun, Serves}
+use Rattle.es_single.specs.inner.Serves.{at_line, AnswersLine, TakesTurn, NoneOver, whole, served, Answered, Begun, Serves}
 
 module _ (t : Terms) where
   -- a line that was taken, and what answering it left

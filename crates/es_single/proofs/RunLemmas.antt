@@ -20,11 +20,11 @@ use Rattle.es_process.specs.Terms.{Terms}
 use Rattle.es_process.proofs.DrainLemmas.{run-exists}
 use Rattle.es_process.proofs.SingleThreadLemmas.{Goes-end, Goes-after}
 use Rattle.es_process.proofs.StandingLemmas.{appends_nothing, front_none}
-use Rattle.es_single.specs.Counts.{CountsTold}
+use Rattle.es_single.specs.inner.Counts.{CountsTold}
 use Rattle.es_single.specs.Limits.{terms_of, all_lines}
 use Rattle.es_single.specs.Runs.{state_of, AreEmpty, PartRun, WholeRun, Runs}
-use Rattle.es_single.specs.Serves.{whole, served, Answered}
-use Rattle.es_single.specs.Taken.{Taken}
+use Rattle.es_single.specs.inner.Serves.{whole, served, Answered}
+use Rattle.es_single.specs.inner.Taken.{Taken}
 use Rattle.es_single.proofs.CountLemmas.{counts-empty}
 use Rattle.es_single.proofs.TakenLemmas.{taken_lines}
 

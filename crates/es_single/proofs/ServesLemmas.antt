@@ -38,7 +38,7 @@ use Rattle.es_process.proofs.SingleThreadLemmas.{Goes-none, Goes-one, run-finish
 use Rattle.es_process.proofs.StandingLemmas.{appends_nothing, Cut-none, Cut-turn, came_then, came_faulted}
 use Rattle.es_single.specs.declared.serve.Stop.{Stop}
 use Rattle.es_single.specs.declared.serve.Stop.TheVariants as stop
-use Rattle.es_single.specs.Serves.{SaysIt, at_line, past_it, after_reply, prompted_by, DrainsAfter, RepliesAndDrains, AnswersLine}
+use Rattle.es_single.specs.inner.Serves.{SaysIt, at_line, past_it, after_reply, prompted_by, DrainsAfter, RepliesAndDrains, AnswersLine}
 
 -- a choice whose test is known
 chosen : {A : Type 0} (b : Bool) (x y : A) → b ≡ true → (if b then x else y) ≡ x

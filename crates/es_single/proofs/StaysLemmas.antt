@@ -3,7 +3,7 @@ use Rattle.std.proofs.Common.{◌∙◌, ℕ, List, Option, refl, arith}
 use Rattle.es_io.specs.declared.lines.Lines.{Lines}
 use Rattle.es_io.specs.LinesLeft.{source_of, may_take, EndsRightly}
 use Rattle.es_io.proofs.LinesLemmas.{TakesAtMost-none, TakesAtMost-then}
-use Rattle.es_single.specs.Stays.{LinesStay}
+use Rattle.es_single.specs.inner.Stays.{LinesStay}
 
 -- none was called
 pub lines-none : {S : Type 0} (left : S → Option (List ℕ)) (faults : S → ℕ) (l : Lines S) → EndsRightly left l → LinesStay left faults l l

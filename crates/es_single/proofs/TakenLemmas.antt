@@ -6,8 +6,9 @@ use Rattle.es_model.specs.Lines.{Line, over, in_front, pieces_of, line_of, lines
 use Rattle.es_io.specs.Next.{UsesLine, TakesAtMost}
 use Rattle.es_io.proofs.LinesLemmas.{TakesAtMost-none}
 use Rattle.es_single.specs.Limits.{TakesLines}
-use Rattle.es_single.specs.Serves.{NoneOver}
-use Rattle.es_single.specs.Taken.{EndsLine, UsesSome, LeavesUnended, Counted, Taken}
+use Rattle.es_single.specs.inner.Serves.{NoneOver}
+use Rattle.es_single.specs.Runs.{EndsLine}
+use Rattle.es_single.specs.inner.Taken.{UsesSome, LeavesUnended, Counted, Taken}
 
 -- a line with its line feed is the first piece
 not_feed : (b : ℕ) → b ≢ 10 → (b == 10) ≡ false

@@ -1,18 +1,21 @@
 -- What a run over opened applications leaves, before the end line.
-use Rattle.std.specs.Prelude.{◌≡◌, ℕ, List, [], ◌++◌, Contains, Option, Some, Result, Ok, Err}
-use Rattle.std.specs.Io.KnownBytes.{Appends}
-use Rattle.es_model.specs.declared.memory.Failed.{Failed}
+use Rattle.es_io.specs.Readings.{Readings}
+use Rattle.es_lines.specs.declared.ends.End.TheVariants as end
+use Rattle.es_lines.specs.declared.ends.End.{End}
 use Rattle.es_model.specs.History.{Histories}
 use Rattle.es_model.specs.Lines.{NoLineFeed}
 use Rattle.es_model.specs.Values.{Name}
-use Rattle.es_io.specs.Readings.{Readings}
-use Rattle.es_lines.specs.declared.ends.End.{End}
-use Rattle.es_lines.specs.declared.ends.End.TheVariants as end
+use Rattle.es_model.specs.declared.memory.Failed.{Failed}
 use Rattle.es_process.specs.SingleThread.{Step, Run, IsRun, start, left_by, written_by}
 use Rattle.es_process.specs.Standing.{State, IsFrontOf}
 use Rattle.es_process.specs.Terms.{Terms}
 use Rattle.es_single.specs.Limits.{all_lines}
-use Rattle.es_single.specs.Taken.{EndsLine}
+use Rattle.std.specs.Io.KnownBytes.{Appends}
+use Rattle.std.specs.Prelude.{◌≡◌, ◌⊎◌, ℕ, List, [], ◌∷◌, ◌++◌, Contains, Option, Some, Result, Ok, Err}
+
+-- these are whole lines: none, or the last ends with its line feed
+abbrev pub EndsLine : List ℕ → Type 0
+EndsLine bytes = (bytes ≡ []) ⊎ ((front : List ℕ) × (bytes ≡ front ++ 10 ∷ []))
 
 -- the state at these openings, before the run
 abbrev pub state_of : Histories → Readings → State

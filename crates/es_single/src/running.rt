@@ -8,7 +8,7 @@ ghost use Rattle.es_process.specs.Drains.{IsOnlyPair};
 ghost use Rattle.es_process.specs.Faults.{end_of};
 ghost use Rattle.es_process.specs.Standing.{Holds, HoldHistories, AllStay, SomeRose, names_in, AreDistinct, IsSame, MayFailToRead};
 ghost use Rattle.es_process.specs.SystemRules.{app_names, in_order};
-ghost use Rattle.es_single.specs.Counts.{CountsTold, IsCounted};
+ghost use Rattle.es_single.specs.inner.Counts.{CountsTold, IsCounted};
 ghost use Rattle.es_single.specs.Limits.{limits, terms_of, TakesLines};
 ghost use Rattle.es_single.specs.Traced.{OfInput};
 ghost use Rattle.es_single.specs.Runs.{AreEmpty, IsRunning, Runs, state_of};

@@ -14,12 +14,12 @@ ghost use Rattle.es_process.specs.SingleThread.{leaders_of};
 ghost use Rattle.es_process.specs.Standing.{State, Holds, HoldHistories, AllStay, SomeRose, names_in};
 ghost use Rattle.es_process.specs.SystemRules.{reply_to, rules_of};
 ghost use Rattle.es_process.specs.Terms.{terms};
-ghost use Rattle.es_single.specs.Serves.{SaysIt, DrainsAfter, RepliesAndDrains, AnswersLine, TakesTurn, Begun, Serves, prompted_by, IsSaying, IsFault, IsAnswering};
+ghost use Rattle.es_single.specs.inner.Serves.{SaysIt, DrainsAfter, RepliesAndDrains, AnswersLine, TakesTurn, Begun, Serves, prompted_by, IsSaying, IsFault, IsAnswering};
 ghost use Rattle.es_io.specs.Remains.{MayHold, MayHaveLeft, lines_from};
 ghost use Rattle.es_process.specs.Traced.{Traced};
-ghost use Rattle.es_single.specs.Stays.{LinesStay};
-ghost use Rattle.es_single.specs.Taken.{UsesSome, LeavesUnended, Taken};
-ghost use Rattle.es_single.specs.Traced.{LinesTraced};
+ghost use Rattle.es_single.specs.inner.Stays.{LinesStay};
+ghost use Rattle.es_single.specs.inner.Taken.{UsesSome, LeavesUnended, Taken};
+ghost use Rattle.es_single.specs.inner.LinesTraced.{LinesTraced};
 
 use es_domain::Command;
 use es_io::{Clock, Lines, LinesFault, Sink, Source, Step, write_all};

@@ -2,7 +2,7 @@ use Rattle.std.proofs.Common.{◌+◌, ℕ, List, Option, Ok, if◌then◌else�
 use Rattle.es_model.specs.History.{Histories}
 use Rattle.es_model.specs.Values.{Name}
 use Rattle.es_process.specs.Answer.{Options}
-use Rattle.es_process.specs.Drains.{FollowsOne, turns_left}
+use Rattle.es_process.specs.inner.Following.{FollowsOne, turns_left}
 use Rattle.es_process.specs.Standing.{State, Holds, HoldHistories, AllStay}
 use Rattle.es_process.specs.SystemRules.{rules_of}
 use Rattle.es_process.specs.Terms.{terms}

@@ -5,7 +5,7 @@ use Rattle.es_io.proofs.RemainsLemmas.{some_held}
 use Rattle.es_process.specs.Standing.{AreDistinct, Holds, HoldHistories}
 use Rattle.es_process.specs.SystemRules.{app_names, in_order}
 use Rattle.es_process.proofs.HoldsLemmas.{held-histories}
-use Rattle.es_single.specs.Counts.{CountsTold}
+use Rattle.es_single.specs.inner.Counts.{CountsTold}
 use Rattle.es_single.specs.Limits.{limits, terms_of}
 use Rattle.es_single.specs.Runs.{state_of}
 use Rattle.es_single.proofs.CountLemmas.{leaders-same, only-apps}

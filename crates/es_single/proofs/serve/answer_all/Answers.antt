@@ -5,7 +5,7 @@ use Rattle.es_process.specs.SystemRules.{rules_of}
 use Rattle.es_process.specs.Terms.{terms}
 use Rattle.es_process.proofs.HoldsLemmas.{held-histories, all-none, all-then, rose-then}
 use Rattle.es_io.specs.Remains.{lines_from}
-use Rattle.es_single.specs.Taken.{Counted}
+use Rattle.es_single.specs.inner.Taken.{Counted}
 use Rattle.es_single.proofs.LoopLemmas.{none_answered, one_answered, stopped}
 use Rattle.es_single.proofs.StaysLemmas.{lines-none, lines-then}
 use Rattle.es_single.proofs.TakenLemmas.{counted_none, counted_more, counted_taken}

@@ -5,11 +5,11 @@ use Rattle.es_process.specs.Answer.{Options}
 use Rattle.es_process.specs.Standing.{State, Holds, AllStay}
 use Rattle.es_process.specs.SystemRules.{rules_of}
 use Rattle.es_process.specs.Terms.{terms}
-use Rattle.es_single.specs.Serves.{Begun, Answered}
+use Rattle.es_single.specs.inner.Serves.{Begun, Answered}
 use Rattle.es_io.specs.Remains.{lines_from}
-use Rattle.es_single.specs.Stays.{LinesStay}
-use Rattle.es_single.specs.Taken.{Counted}
-use Rattle.es_single.specs.Traced.{LinesTraced}
+use Rattle.es_single.specs.inner.Stays.{LinesStay}
+use Rattle.es_single.specs.inner.Taken.{Counted}
+use Rattle.es_single.specs.inner.LinesTraced.{LinesTraced}
 use Rattle.es_single.proofs.serve.answer_all.Given as goal
 
 abbrev pub invariant-loop-count : goal.invariant-loop-count

@@ -1,7 +1,7 @@
 use Rattle.std.proofs.Common.{ap}
 use Rattle.es_process.specs.SystemRules.{rules_of}
 use Rattle.es_process.specs.Terms.{terms}
-use Rattle.es_single.specs.Serves.{prompted_by}
+use Rattle.es_single.specs.inner.Serves.{prompted_by}
 use Rattle.es_single.proofs.ServesLemmas.{drained, drain_failed, not_drained}
 use Rattle.es_single.proofs.serve.drain_after.Goals as goal
 

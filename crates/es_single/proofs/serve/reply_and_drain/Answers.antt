@@ -3,7 +3,7 @@ use Rattle.es_process.specs.SystemRules.{rules_of}
 use Rattle.es_process.specs.Terms.{terms}
 use Rattle.es_process.specs.Standing.{Holds, HoldHistories}
 use Rattle.es_process.proofs.HoldsLemmas.{held-histories}
-use Rattle.es_single.specs.Serves.{prompted_by}
+use Rattle.es_single.specs.inner.Serves.{prompted_by}
 use Rattle.es_single.proofs.ServesLemmas.{replied, unreplied}
 use Rattle.es_single.proofs.serve.reply_and_drain.Goals as goal
 

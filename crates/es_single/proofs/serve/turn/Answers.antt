@@ -1,6 +1,6 @@
 use Rattle.std.proofs.Common.{refl, Some, IfErr, subst, inl, inr}
 use Rattle.es_single.specs.declared.serve.Stop.TheVariants as stop
-use Rattle.es_single.specs.Serves.{IsAnswering, IsSaying}
+use Rattle.es_single.specs.inner.Serves.{IsAnswering, IsSaying}
 use Rattle.es_model.specs.Lines.{text, long, lines_of}
 use Rattle.es_lines.specs.declared.replies.Reply.TheVariants.{Long}
 use Rattle.es_io.specs.LinesLeft.{has_ended}
@@ -9,7 +9,7 @@ use Rattle.es_process.specs.SystemRules.{rules_of}
 use Rattle.es_process.specs.Terms.{terms}
 use Rattle.es_process.specs.Standing.{Holds, HoldHistories}
 use Rattle.es_process.proofs.HoldsLemmas.{held-histories}
-use Rattle.es_single.specs.Taken.{UsesSome}
+use Rattle.es_single.specs.inner.Taken.{UsesSome}
 use Rattle.es_single.proofs.ServesLemmas.{said_only, too_long}
 use Rattle.es_single.proofs.LoopLemmas.{turned}
 use Rattle.es_single.proofs.TakenLemmas.{on_ok, some_bytes}

@@ -1,11 +1,8 @@
 -- Which bytes of an input were taken in whole lines.
-use Rattle.std.specs.Prelude.{◌≡◌, ◌⊎◌, ℕ, Bool, IsTrue, List, [], ◌∷◌, ◌++◌, length}
+use Rattle.std.specs.Prelude.{◌≡◌, ◌⊎◌, ℕ, Bool, IsTrue, List, [], ◌++◌, length}
 use Rattle.es_model.specs.Lines.{pieces_of, NoLineFeed}
 use Rattle.es_io.specs.Next.{UsesLine}
-
--- these are whole lines: none, or the last ends with its line feed
-abbrev pub EndsLine : List ℕ → Type 0
-EndsLine bytes = (bytes ≡ []) ⊎ ((front : List ℕ) × (bytes ≡ front ++ 10 ∷ []))
+use Rattle.es_single.specs.Runs.{EndsLine}
 
 -- a turn used one line of the bytes to come, and at last the source may be known to be at its end
 abbrev pub UsesSome : List ℕ → List ℕ → Bool → Type 0
