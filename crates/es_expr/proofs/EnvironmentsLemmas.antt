@@ -6,7 +6,7 @@ use Rattle.std.specs.Ordering.{nat_cmp}
 use Rattle.std.specs.declared.cmp.Ordering.TheVariants.{Equal}
 use Rattle.es_model.specs.Values.{Name}
 use Rattle.es_model.specs.Rising.{is_before, IsRising, comes_first, comes_last}
-use Rattle.es_expr.specs.Environments.{prefixed, creating_env, command_env, created_env, assign_env, rule_env}
+use Rattle.es_expr.specs.Environments.{prefixed, creating_env, command_env, created_env, assign_env}
 
 -- one list behind another
 
@@ -99,12 +99,6 @@ pub IsRising-assign : {A : Type 0} (event : List (Name × A)) (id at : A) (self 
 IsRising-assign event id at self version rising names =
     IsRising-self (created_env event id at) self version (IsRising-created event id at rising) names
     (comes_last-append ((codes "at", at) ∷ prefixed (codes "event.") event) (codes "id", id) [])
-
-pub IsRising-rule : {A : Type 0} (event : List (Name × A)) (id at leader position version : A) → IsRising event → IsRising (rule_env event id at leader position version)
-IsRising-rule event id at leader position version rising =
-    IsRising-append (created_env event id at) (codes "leader", leader) ((codes "position", position) ∷ (codes "version", version) ∷ [])
-    (IsRising-created event id at rising)
-    (comes_last-append ((codes "at", at) ∷ prefixed (codes "event.") event) (codes "id", id) [] (codes "leader")) (refl, (refl, (refl, tt)))
 
 -- the same, step by step as an environment is made
 
