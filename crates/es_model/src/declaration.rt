@@ -224,15 +224,23 @@ fn call(rule: &Rule) -> Result<(Text, Assigns), NoMemory>
     Ok((rule.command.copy()?, rule.args.copy()?))
 }
 
+// A copy of what a rule goes by: its topic, and the aggregate that the command is for.
+fn aim(rule: &Rule) -> Result<(Text, Expr), NoMemory>
+    ensures { IfOk result (λ c. (c.0 ≡ rule.now.topic) × (c.1 ≡ rule.now.target)) }
+{
+    Ok((rule.topic.copy()?, rule.target.copy()?))
+}
+
 impl Duplicate for Rule {
     fn copy(&self) -> Result<Rule, NoMemory> {
-        let (leader, when) = condition(self)?;
         let (command, args) = call(self)?;
+        let (topic, target) = aim(self)?;
+        let (leader, when) = condition(self)?;
         Ok(Rule {
-            topic: self.topic.copy()?,
+            topic,
             leader,
             when,
-            target: self.target.copy()?,
+            target,
             command,
             args,
             otherwise: self.otherwise,

@@ -1,5 +1,8 @@
 ghost use Rattle.std.specs.Prelude.{◌≡◌, IfOk};
+ghost use Rattle.es_model.specs.OperatorWords.{over_one, over_two};
+ghost use Rattle.es_model.specs.declared.expr.Expr as expr;
 
+use crate::operators::{Binary, Unary};
 use crate::{AtomKind, Boxed, Decimal, Duplicate, Moment, NoMemory, Text};
 use uuid::Uuid;
 
@@ -41,6 +44,36 @@ fn copied(operand: &Boxed<Expr>) -> Result<Boxed<Expr>, NoMemory>
     Boxed::new(operand.allocator(), operand.get().copy()?)
 }
 
+// A copy of an operator over its operand.
+#[cycle(copying)]
+fn one(operator: Unary, a: &Boxed<Expr>) -> Result<Expr, NoMemory>
+    ensures { IfOk result (λ c. c ≡ over_one operator a.now) }
+{
+    let a = copied(a)?;
+    Ok(operator.over(a))
+}
+
+// A copy of an operator over its operands.
+#[cycle(copying)]
+fn two(operator: Binary, a: &Boxed<Expr>, b: &Boxed<Expr>) -> Result<Expr, NoMemory>
+    ensures { IfOk result (λ c. c ≡ over_two operator a.now b.now) }
+{
+    let a = copied(a)?;
+    let b = copied(b)?;
+    Ok(operator.over(a, b))
+}
+
+// A copy of a choice.
+#[cycle(copying)]
+fn choice(a: &Boxed<Expr>, b: &Boxed<Expr>, c: &Boxed<Expr>) -> Result<Expr, NoMemory>
+    ensures { IfOk result (λ e. e ≡ expr.If a.now b.now c.now) }
+{
+    let a = copied(a)?;
+    let b = copied(b)?;
+    let c = copied(c)?;
+    Ok(Expr::If(a, b, c))
+}
+
 impl Duplicate for Expr {
     #[cycle(copying)]
     fn copy(&self) -> Result<Expr, NoMemory> {
@@ -53,23 +86,23 @@ impl Duplicate for Expr {
             Expr::Decimal(decimal) => Ok(Expr::Decimal(*decimal)),
             Expr::None(kind) => Ok(Expr::None(*kind)),
             Expr::Get(name) => Ok(Expr::Get(name.copy()?)),
-            Expr::Add(a, b) => Ok(Expr::Add(copied(a)?, copied(b)?)),
-            Expr::Sub(a, b) => Ok(Expr::Sub(copied(a)?, copied(b)?)),
-            Expr::Mul(a, b) => Ok(Expr::Mul(copied(a)?, copied(b)?)),
-            Expr::Eq(a, b) => Ok(Expr::Eq(copied(a)?, copied(b)?)),
-            Expr::Ne(a, b) => Ok(Expr::Ne(copied(a)?, copied(b)?)),
-            Expr::Lt(a, b) => Ok(Expr::Lt(copied(a)?, copied(b)?)),
-            Expr::Le(a, b) => Ok(Expr::Le(copied(a)?, copied(b)?)),
-            Expr::And(a, b) => Ok(Expr::And(copied(a)?, copied(b)?)),
-            Expr::Or(a, b) => Ok(Expr::Or(copied(a)?, copied(b)?)),
-            Expr::Not(a) => Ok(Expr::Not(copied(a)?)),
-            Expr::If(a, b, c) => Ok(Expr::If(copied(a)?, copied(b)?, copied(c)?)),
-            Expr::Concat(a, b) => Ok(Expr::Concat(copied(a)?, copied(b)?)),
-            Expr::Append(a, b) => Ok(Expr::Append(copied(a)?, copied(b)?)),
-            Expr::Contains(a, b) => Ok(Expr::Contains(copied(a)?, copied(b)?)),
-            Expr::Len(a) => Ok(Expr::Len(copied(a)?)),
-            Expr::Show(a) => Ok(Expr::Show(copied(a)?)),
-            Expr::Uuid5(a, b) => Ok(Expr::Uuid5(copied(a)?, copied(b)?)),
+            Expr::Add(a, b) => two(Binary::Add, a, b),
+            Expr::Sub(a, b) => two(Binary::Sub, a, b),
+            Expr::Mul(a, b) => two(Binary::Mul, a, b),
+            Expr::Eq(a, b) => two(Binary::Eq, a, b),
+            Expr::Ne(a, b) => two(Binary::Ne, a, b),
+            Expr::Lt(a, b) => two(Binary::Lt, a, b),
+            Expr::Le(a, b) => two(Binary::Le, a, b),
+            Expr::And(a, b) => two(Binary::And, a, b),
+            Expr::Or(a, b) => two(Binary::Or, a, b),
+            Expr::Not(a) => one(Unary::Not, a),
+            Expr::If(a, b, c) => choice(a, b, c),
+            Expr::Concat(a, b) => two(Binary::Concat, a, b),
+            Expr::Append(a, b) => two(Binary::Append, a, b),
+            Expr::Contains(a, b) => two(Binary::Contains, a, b),
+            Expr::Len(a) => one(Unary::Len, a),
+            Expr::Show(a) => one(Unary::Show, a),
+            Expr::Uuid5(a, b) => two(Binary::Uuid5, a, b),
         }
     }
 }
