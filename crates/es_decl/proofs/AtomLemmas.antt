@@ -8,7 +8,7 @@ use Rattle.es_transcode.specs.Spelled.{moment_in, decimal_in}
 use Rattle.es_transcode.specs.CivilText.{IsMomentText}
 use Rattle.es_transcode.specs.Texts.{kind_of, decimal_text, HasText}
 use Rattle.es_transcode.proofs.SpelledLemmas.{moment-spelled, moment-has, decimal-spelled, decimal-has}
-use Rattle.es_decl.specs.Atoms.{moment_of, decimal_of}
+use Rattle.es_decl.specs.inner.Atoms.{moment_of, decimal_of}
 
 -- nothing is there
 pub nothing : {A : Type 0} (o : Option A) → ((x : A) → o ≡ Some x → ⊥) → None ≡ o

@@ -7,7 +7,9 @@ use Rattle.serde_json.proofs.Views.{Entry, view-Array, view-Object}
 use Rattle.es_model.specs.Values.{Name}
 use Rattle.es_model.specs.declared.declaration.Code.TheVariants as code
 use Rattle.es_model.specs.declared.expr.Expr.{Expr}
-use Rattle.es_decl.specs.declared.expressions.Arity.TheVariants.{Unary, Binary, Ternary}
+use Rattle.es_model.specs.declared.operators.Binary.{Binary}
+use Rattle.es_model.specs.declared.operators.Operator.TheVariants.{One, Two, Choice}
+use Rattle.es_model.specs.declared.operators.Unary.{Unary}
 use Rattle.es_decl.specs.Expressions.{folded, only, operands, each, operation, children, greatest, total}
 use Rattle.es_decl.specs.Readings.{Reading, here}
 
@@ -24,19 +26,19 @@ folded-none odd node tree m is none = ap (λ v. folded odd node (view v)) is ∙
 pub in-array : {A : Type 0} (odd : A) (node : Name → Data → List A → A) (tree : Value) (v : Vec Value Global) (vs : List Value) → tree ≡ Array v → vs ≡ v.items → operands odd node (view tree) ≡ each odd node (items_view vs)
 in-array odd node tree v vs is same = ap (λ t. operands odd node (view t)) is ∙ ap (operands odd node) (view-Array v) ∙ ap (λ us. each odd node (items_view us)) (sym same)
 
-module _ (node : Name → Data → List (Reading Expr) → Reading Expr) (w : Name) (d : Data) where
-  pub not-one : (odd : Reading Expr) (vs : List Value) → (length vs ≡ 1 → ⊥) → operation Unary w d (each odd node (items_view vs)) ≡ here code.Form
-  not-one odd [] none = refl
-  not-one odd (t ∷ []) none = absurd (none refl)
-  not-one odd (t ∷ u ∷ vs) none = refl
+module _ (node : Name → Data → List (Reading Expr) → Reading Expr) (w : Name) where
+  pub not-one : (odd : Reading Expr) (o : Unary) (vs : List Value) → (length vs ≡ 1 → ⊥) → operation (One o) w (each odd node (items_view vs)) ≡ here code.Form
+  not-one odd o [] none = refl
+  not-one odd o (t ∷ []) none = absurd (none refl)
+  not-one odd o (t ∷ u ∷ vs) none = refl
 
-  pub not-two : (odd : Reading Expr) (vs : List Value) → (length vs ≡ 2 → ⊥) → operation Binary w d (each odd node (items_view vs)) ≡ here code.Form
-  not-two odd [] none = refl
-  not-two odd (t ∷ []) none = refl
-  not-two odd (t ∷ u ∷ []) none = absurd (none refl)
-  not-two odd (t ∷ u ∷ v ∷ vs) none = refl
+  pub not-two : (odd : Reading Expr) (o : Binary) (vs : List Value) → (length vs ≡ 2 → ⊥) → operation (Two o) w (each odd node (items_view vs)) ≡ here code.Form
+  not-two odd o [] none = refl
+  not-two odd o (t ∷ []) none = refl
+  not-two odd o (t ∷ u ∷ []) none = absurd (none refl)
+  not-two odd o (t ∷ u ∷ v ∷ vs) none = refl
 
-  pub not-three : (odd : Reading Expr) (vs : List Value) → (length vs ≡ 3 → ⊥) → operation Ternary w d (each odd node (items_view vs)) ≡ here code.Form
+  pub not-three : (odd : Reading Expr) (vs : List Value) → (length vs ≡ 3 → ⊥) → operation Choice w (each odd node (items_view vs)) ≡ here code.Form
   not-three odd [] none = refl
   not-three odd (t ∷ []) none = refl
   not-three odd (t ∷ u ∷ []) none = refl
@@ -44,18 +46,18 @@ module _ (node : Name → Data → List (Reading Expr) → Reading Expr) (w : Na
   not-three odd (t ∷ u ∷ v ∷ x ∷ vs) none = refl
 
 module _ {A : Type 0} (odd : A) (node : Name → Data → List A → A) where
-  pub no-child : (vs : List Value) → (length vs ≡ 1 → ⊥) → children Unary (each odd node (items_view vs)) ≡ []
-  no-child [] none = refl
-  no-child (t ∷ []) none = absurd (none refl)
-  no-child (t ∷ u ∷ vs) none = refl
+  pub no-child : (o : Unary) (vs : List Value) → (length vs ≡ 1 → ⊥) → children (One o) (each odd node (items_view vs)) ≡ []
+  no-child o [] none = refl
+  no-child o (t ∷ []) none = absurd (none refl)
+  no-child o (t ∷ u ∷ vs) none = refl
 
-  pub no-children : (vs : List Value) → (length vs ≡ 2 → ⊥) → children Binary (each odd node (items_view vs)) ≡ []
-  no-children [] none = refl
-  no-children (t ∷ []) none = refl
-  no-children (t ∷ u ∷ []) none = absurd (none refl)
-  no-children (t ∷ u ∷ v ∷ vs) none = refl
+  pub no-children : (o : Binary) (vs : List Value) → (length vs ≡ 2 → ⊥) → children (Two o) (each odd node (items_view vs)) ≡ []
+  no-children o [] none = refl
+  no-children o (t ∷ []) none = refl
+  no-children o (t ∷ u ∷ []) none = absurd (none refl)
+  no-children o (t ∷ u ∷ v ∷ vs) none = refl
 
-  pub no-three : (vs : List Value) → (length vs ≡ 3 → ⊥) → children Ternary (each odd node (items_view vs)) ≡ []
+  pub no-three : (vs : List Value) → (length vs ≡ 3 → ⊥) → children Choice (each odd node (items_view vs)) ≡ []
   no-three [] none = refl
   no-three (t ∷ []) none = refl
   no-three (t ∷ u ∷ []) none = refl

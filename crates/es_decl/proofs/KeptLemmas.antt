@@ -8,10 +8,10 @@ use Rattle.es_model.proofs.HistoryLemmas.{both_true}
 use Rattle.es_model.specs.Values.{Name}
 use Rattle.es_model.specs.declared.declaration.Code.{Code}
 use Rattle.es_model.specs.declared.declaration.Code.TheVariants as code
-use Rattle.es_expr.specs.Limits.{is_between, has_name_length, has_lower_form, has_upper_form, is_lower_name, is_upper_name, is_field_name, is_code_name, is_reserved_field, is_reserved_code}
-use Rattle.es_decl.specs.declared.names.NameForm.{NameForm}
-use Rattle.es_decl.specs.declared.names.NameForm.TheVariants as form
-use Rattle.es_decl.specs.Names.{is_spelled, name_test}
+use Rattle.es_model.specs.Names.{is_between, has_name_length, has_lower_form, has_upper_form, is_lower_name, is_upper_name, is_field_name, is_code_name, is_reserved_field, is_reserved_code, is_spelled}
+use Rattle.es_model.specs.declared.names.NameForm.{NameForm}
+use Rattle.es_model.specs.declared.names.NameForm.TheVariants as form
+use Rattle.es_decl.specs.Names.{name_test}
 use Rattle.es_decl.specs.Paths.{member_step, item_step}
 use Rattle.es_decl.specs.Readings.{Reading, fine, here, and_then, under, own, around}
 use Rattle.es_decl.specs.Parts.{found, member, some, if_found, optional, name, ranged, whole, is_within, count, each_item, several, with_name, each_member, size, named_parts}

@@ -12,7 +12,7 @@ use Rattle.es_model.specs.Rising.{comes_last, is_before}
 use Rattle.es_model.specs.Values.{Name}
 use Rattle.es_model.specs.declared.declaration.Code.TheVariants as code
 use Rattle.es_decl.specs.declared.fault.DeclFault.{DeclFault}
-use Rattle.es_decl.specs.declared.names.NameForm.{NameForm}
+use Rattle.es_model.specs.declared.names.NameForm.{NameForm}
 use Rattle.es_decl.specs.Paths.{item_step, member_step}
 use Rattle.es_decl.specs.Names.{name_test}
 use Rattle.es_decl.specs.Readings.{Reading, Reads, here, under, and_then, around}

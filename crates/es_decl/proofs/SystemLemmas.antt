@@ -9,6 +9,7 @@ use Rattle.std.proofs.lemmas.Slice.Eq.{bytes_eq-Decides}
 use Rattle.std.proofs.lemmas.Bool.Decides.{Decides-eqb}
 use Rattle.serde_json.specs.Data.{Data, null, boolean, number, string, array, object, no_items, item, no_members, member as another}
 use Rattle.es_model.proofs.HistoryLemmas.{both_true}
+use Rattle.es_model.specs.Names.{has_upper_form, has_name_length, is_upper_name, is_field_name, is_in_upper_name, is_lower, is_upper, is_digit, is_dot, is_topic_in, topic_of}
 use Rattle.es_model.specs.Values.{Name}
 use Rattle.es_model.specs.declared.declaration.Edit.{Edit}
 use Rattle.es_model.specs.declared.declaration.Edit.TheVariants.{Add, Rename, Drop}
@@ -17,13 +18,14 @@ use Rattle.es_model.specs.declared.declaration.Code.TheVariants as code
 use Rattle.es_model.specs.declared.expr.Expr.TheFolds.{map-Expr, fold-roll-Expr}
 use Rattle.es_model.specs.declared.expr.Expr.TheOpen.{Expr-F}
 use Rattle.es_model.specs.declared.expr.Expr.{Expr, roll-Expr}
+use Rattle.es_model.specs.declared.limits.TheConstants.{MOST_FIELDS, MOST_UPCASTS, MOST_EDITS}
 use Rattle.es_model.specs.declared.value.Atom.TheVariants as atom
 use Rattle.es_model.specs.declared.value.Kind.{Kind}
 use Rattle.es_model.specs.declared.value.Value.{Value}
 use Rattle.es_model.specs.declared.value.Value.TheVariants.{One, List as Many}
-use Rattle.es_expr.specs.Limits.{has_upper_form, has_name_length, is_upper_name, is_field_name, is_in_upper_name, is_lower, is_upper, is_digit, is_dot, is_topic_in, is_value_within, is_edit_within, is_expr_within, are_kinds_within, are_assigns_within, are_upcasts_within, is_upcast_within, is_event_within}
-use Rattle.es_decl.specs.declared.names.NameForm.{NameForm}
-use Rattle.es_decl.specs.declared.names.NameForm.TheVariants as form
+use Rattle.es_expr.specs.Limits.{is_value_within, is_edit_within, is_expr_within, are_kinds_within, are_assigns_within, are_upcasts_within, is_upcast_within, is_event_within}
+use Rattle.es_model.specs.declared.names.NameForm.{NameForm}
+use Rattle.es_model.specs.declared.names.NameForm.TheVariants as form
 use Rattle.es_decl.specs.declared.objects.Object.TheVariants as the
 use Rattle.es_decl.specs.Declaration.{kinds, assigns, upcasts, event}
 use Rattle.es_decl.specs.Edits.{value_step, value_of, constant, add_of, rename_of, drop_of, added_pair, renamed_pair, added, renamed, dropped, edit_by, edit}
@@ -34,7 +36,6 @@ use Rattle.es_decl.specs.Objects.{shape_test}
 use Rattle.es_decl.specs.Parts.{member, optional, or_else, name, is_within, several, sole, two}
 use Rattle.es_decl.specs.Paths.{member_step, item_step}
 use Rattle.es_decl.specs.Readings.{Reading, here, and_then, under}
-use Rattle.es_decl.specs.Words.{topic_of}
 use Rattle.es_decl.proofs.KeptLemmas.{Keeps, both, then-ok, under-ok, member-ok, optional-ok, is_name, name-test-ok, name-ok, several-ok, named-ok}
 use Rattle.es_decl.proofs.WeightLemmas.{Gives, gives-literal, expression-ok}
 
@@ -163,17 +164,17 @@ pub few-ok : {A : Type 0} (n : ℕ) (part : Data → Reading A) (p : A → Bool)
 few-ok n part p keeps = weaker (several 0 (Some n) part) (λ xs. is_within 0 (Some n) (length xs) && list_all p xs) (λ xs. nat_le (length xs) n && list_all p xs) (at-most n p) (several-ok 0 (Some n) part p keeps)
 
 upcasts-ok : Keeps upcasts are_upcasts_within
-upcasts-ok = few-ok 100 (several 0 (Some 16) edit) is_upcast_within (few-ok 16 edit is_edit_within edit-ok)
+upcasts-ok = few-ok MOST_UPCASTS (several 0 (Some MOST_EDITS) edit) is_upcast_within (few-ok MOST_EDITS edit is_edit_within edit-ok)
 
 abbrev any-kind : Kind → Bool
 any-kind k = true
 
 pub kinds-ok : (f : NameForm) → Keeps (kinds f) (are_kinds_within (is_name f))
 kinds-ok f d xs h =
-    let a = named-ok f (Some 32) kind any-kind (λ e x is. refl) d xs h in
-    let b = both_true (is_within 0 (Some 32) (length xs) && list_all (λ x. is_name f x.0) xs) (list_all (λ x. any-kind x.1) xs) a in
-    let c = both_true (is_within 0 (Some 32) (length xs)) (list_all (λ x. is_name f x.0) xs) b.0 in
-    both (nat_le (length xs) 32) (list_all (λ x. is_name f x.0) xs) (both_true (nat_le 0 (length xs)) (nat_le (length xs) 32) c.0).1 c.1
+    let a = named-ok f (Some MOST_FIELDS) kind any-kind (λ e x is. refl) d xs h in
+    let b = both_true (is_within 0 (Some MOST_FIELDS) (length xs) && list_all (λ x. is_name f x.0) xs) (list_all (λ x. any-kind x.1) xs) a in
+    let c = both_true (is_within 0 (Some MOST_FIELDS) (length xs)) (list_all (λ x. is_name f x.0) xs) b.0 in
+    both (nat_le (length xs) MOST_FIELDS) (list_all (λ x. is_name f x.0) xs) (both_true (nat_le 0 (length xs)) (nat_le (length xs) MOST_FIELDS) c.0).1 c.1
 
 pub assigns-ok : (f : NameForm) → Keeps (assigns f) are_assigns_within
 assigns-ok f d xs h =

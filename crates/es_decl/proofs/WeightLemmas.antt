@@ -12,15 +12,22 @@ use Rattle.es_model.specs.declared.declaration.Code.TheVariants as code
 use Rattle.es_model.specs.declared.expr.Expr.TheFolds.{map-Expr, fold-roll-Expr}
 use Rattle.es_model.specs.declared.expr.Expr.TheOpen.{Expr-F}
 use Rattle.es_model.specs.declared.expr.Expr.{Expr, roll-Expr, Bool as Truth, Int, Text, Uuid, Moment, Decimal, None, Get, Add, Sub, Mul, Eq, Ne, Lt, Le, And, Or, Not, If, Concat, Append, Contains, Len, Show, Uuid5}
+use Rattle.es_model.specs.declared.limits.TheConstants.{MOST_TEXT_BYTES, MOST_LEVELS, MOST_NODES}
+use Rattle.es_model.specs.declared.operators.Binary.{Binary}
+use Rattle.es_model.specs.declared.operators.Binary.TheVariants as two
+use Rattle.es_model.specs.declared.operators.Operator.{Operator}
+use Rattle.es_model.specs.declared.operators.Operator.TheVariants.{One, Two, Choice}
+use Rattle.es_model.specs.declared.operators.Unary.{Unary}
+use Rattle.es_model.specs.declared.operators.Unary.TheVariants as one
 use Rattle.es_model.specs.declared.value.AtomKind.{AtomKind}
+use Rattle.es_model.specs.OperatorWords.{operator_of, over_one, over_two}
+use Rattle.uuid.specs.Text.{parsed}
 use Rattle.es_transcode.specs.Spelled.{moment_in, decimal_in}
 use Rattle.es_expr.specs.Limits.{depth as expr_depth, nodes as expr_nodes, depth_step, nodes_step, literals_step, has_small_literals, is_expr_within}
-use Rattle.es_decl.specs.declared.expressions.Arity.{Arity}
-use Rattle.es_decl.specs.declared.expressions.Arity.TheVariants.{Literal, Unary, Binary, Ternary}
 use Rattle.es_decl.specs.Kinds.{known, atom_kind}
 use Rattle.es_decl.specs.Paths.{member_step, item_step}
 use Rattle.es_decl.specs.Readings.{Reading, fine, here, and_then, under}
-use Rattle.es_decl.specs.Expressions.{bool_literal, int_literal, text_literal, id_in, uuid_literal, moment_literal, decimal_literal, empty_literal, get_literal, literal, arity, unary, binary, only, operands, each, operand, operation, spelled, spells, children, greatest, total, deeper, more, depth, nodes, size_test, expression}
+use Rattle.es_decl.specs.Expressions.{bool_literal, int_literal, text_literal, uuid_literal, moment_literal, decimal_literal, empty_literal, get_literal, literal, only, operands, each, operand, operation, worded, spelled, spells, children, if_operator, counted, greatest, total, deeper, more, depth, nodes, size_test, expression}
 use Rattle.es_decl.proofs.KeptLemmas.{Keeps, both, then-ok, under-ok, around-ok, if-ok}
 
 choose : {A : Type 0} (P : A → Type 0) (b : Bool) (x y : A) → P x → P y → P (if b then x else y)
@@ -54,15 +61,15 @@ module _ (P : Expr → Type 0) where
   gives-int all (array ds) e h = cc
   gives-int all (object ms) e h = cc
 
-  gives-short : (s : Name) → (nat_le (length s) 4096 ≡ true → P (Text s)) → (b : Bool) → nat_le (length s) 4096 ≡ b → Gives P (if b then Ok (Text s) else under (member_step (codes "text")) (here code.Limit))
+  gives-short : (s : Name) → (nat_le (length s) MOST_TEXT_BYTES ≡ true → P (Text s)) → (b : Bool) → nat_le (length s) MOST_TEXT_BYTES ≡ b → Gives P (if b then Ok (Text s) else under (member_step (codes "text")) (here code.Limit))
   gives-short s all true short e h = let same : Text s ≡ e = cc in subst P same (all short)
   gives-short s all false short e h = cc
 
-  gives-text : ((s : Name) → nat_le (length s) 4096 ≡ true → P (Text s)) → (d : Data) → Gives P (text_literal d)
+  gives-text : ((s : Name) → nat_le (length s) MOST_TEXT_BYTES ≡ true → P (Text s)) → (d : Data) → Gives P (text_literal d)
   gives-text all null e h = cc
   gives-text all (boolean b) e h = cc
   gives-text all (number n) e h = cc
-  gives-text all (string s) e h = gives-short s (all s) (nat_le (length s) 4096) refl e h
+  gives-text all (string s) e h = gives-short s (all s) (nat_le (length s) MOST_TEXT_BYTES) refl e h
   gives-text all (array ds) e h = cc
   gives-text all (object ms) e h = cc
 
@@ -70,7 +77,7 @@ module _ (P : Expr → Type 0) where
   gives-uuid all null e h = cc
   gives-uuid all (boolean b) e h = cc
   gives-uuid all (number n) e h = cc
-  gives-uuid all (string s) e h = gives-known Uuid all (id_in s) e h
+  gives-uuid all (string s) e h = gives-known Uuid all (parsed s) e h
   gives-uuid all (array ds) e h = cc
   gives-uuid all (object ms) e h = cc
 
@@ -107,7 +114,7 @@ module _ (P : Expr → Type 0) where
   gives-nothing : Gives P (here code.Form)
   gives-nothing e h = cc
 
-  pub gives-literal : ((b : Bool) → P (Truth b)) → ((z : ℤ) → P (Int z)) → ((s : Name) → nat_le (length s) 4096 ≡ true → P (Text s)) → ((u : List ℕ) → P (Uuid u)) → ((z : ℤ) → P (Moment z))
+  pub gives-literal : ((b : Bool) → P (Truth b)) → ((z : ℤ) → P (Int z)) → ((s : Name) → nat_le (length s) MOST_TEXT_BYTES ≡ true → P (Text s)) → ((u : List ℕ) → P (Uuid u)) → ((z : ℤ) → P (Moment z))
       → ((d : Scaled) → P (Decimal d)) → ((k : AtomKind) → P (None k)) → ((n : Name) → P (Get n)) → (w : Name) (d : Data) → Gives P (literal w d)
   gives-literal bool int text uuid moment decimal empty get w d =
       choose (Gives P) (bytes_eq w (codes "bool")) (bool_literal d) _ (gives-bool bool d) (
@@ -144,34 +151,31 @@ literal-weighs w d = gives-literal (Weighs 1 1) (λ b. lit (Expr-F.Bool b) refl 
 one-weighs : (e x : Expr) (d n : ℕ) → expr_depth e ≡ expr_depth x + 1 → expr_nodes e ≡ expr_nodes x + 1 → has_small_literals e ≡ has_small_literals x → Weighs d n x → Weighs (suc (max d 0)) (suc (n + 0)) e
 one-weighs e x d n deep many small h = (omega (arith, deep, h.0), omega (arith, many, h.1), small ∙ h.2)
 
-unary-weighs : (w : Name) (x : Expr) (d n : ℕ) → Weighs d n x → Weighs (suc (max d 0)) (suc (n + 0)) (unary w x)
+unary-weighs : (o : Unary) (x : Expr) (d n : ℕ) → Weighs d n x → Weighs (suc (max d 0)) (suc (n + 0)) (over_one o x)
 unfolding roll-Expr denote.Hole.Carrier.roll
-unary-weighs w x d n h =
-    let P = Weighs (suc (max d 0)) (suc (n + 0)) in
-    choose P (bytes_eq w (codes "not")) (Not x) _ (one-weighs (Not x) x d n (deep-of (Expr-F.Not x)) (many-of (Expr-F.Not x)) (small-of (Expr-F.Not x)) h)
-    (choose P (bytes_eq w (codes "len")) (Len x) (Show x) (one-weighs (Len x) x d n (deep-of (Expr-F.Len x)) (many-of (Expr-F.Len x)) (small-of (Expr-F.Len x)) h) (one-weighs (Show x) x d n (deep-of (Expr-F.Show x)) (many-of (Expr-F.Show x)) (small-of (Expr-F.Show x)) h))
+unary-weighs one.Not x d n h = one-weighs (Not x) x d n (deep-of (Expr-F.Not x)) (many-of (Expr-F.Not x)) (small-of (Expr-F.Not x)) h
+unary-weighs one.Len x d n h = one-weighs (Len x) x d n (deep-of (Expr-F.Len x)) (many-of (Expr-F.Len x)) (small-of (Expr-F.Len x)) h
+unary-weighs one.Show x d n h = one-weighs (Show x) x d n (deep-of (Expr-F.Show x)) (many-of (Expr-F.Show x)) (small-of (Expr-F.Show x)) h
 
 two-weighs : (e x y : Expr) (d n c m : ℕ) → expr_depth e ≡ max (expr_depth x) (expr_depth y) + 1 → expr_nodes e ≡ expr_nodes x + expr_nodes y + 1 → has_small_literals e ≡ (has_small_literals x && has_small_literals y)
     → Weighs d n x → Weighs c m y → Weighs (suc (max d (max c 0))) (suc (n + (m + 0))) e
 two-weighs e x y d n c m deep many small h k = (omega (arith, deep, h.0, k.0), omega (arith, many, h.1, k.1), small ∙ both (has_small_literals x) (has_small_literals y) h.2 k.2)
 
-binary-weighs : (w : Name) (x y : Expr) (d n c m : ℕ) → Weighs d n x → Weighs c m y → Weighs (suc (max d (max c 0))) (suc (n + (m + 0))) (binary w x y)
+binary-weighs : (o : Binary) (x y : Expr) (d n c m : ℕ) → Weighs d n x → Weighs c m y → Weighs (suc (max d (max c 0))) (suc (n + (m + 0))) (over_two o x y)
 unfolding roll-Expr denote.Hole.Carrier.roll
-binary-weighs w x y d n c m h k =
-    let P = Weighs (suc (max d (max c 0))) (suc (n + (m + 0))) in
-    choose P (bytes_eq w (codes "add")) (Add x y) _ (two-weighs (Add x y) x y d n c m (deep-of (Expr-F.Add x y)) (many-of (Expr-F.Add x y)) (small-of (Expr-F.Add x y)) h k) (
-    choose P (bytes_eq w (codes "sub")) (Sub x y) _ (two-weighs (Sub x y) x y d n c m (deep-of (Expr-F.Sub x y)) (many-of (Expr-F.Sub x y)) (small-of (Expr-F.Sub x y)) h k) (
-    choose P (bytes_eq w (codes "mul")) (Mul x y) _ (two-weighs (Mul x y) x y d n c m (deep-of (Expr-F.Mul x y)) (many-of (Expr-F.Mul x y)) (small-of (Expr-F.Mul x y)) h k) (
-    choose P (bytes_eq w (codes "eq")) (Eq x y) _ (two-weighs (Eq x y) x y d n c m (deep-of (Expr-F.Eq x y)) (many-of (Expr-F.Eq x y)) (small-of (Expr-F.Eq x y)) h k) (
-    choose P (bytes_eq w (codes "ne")) (Ne x y) _ (two-weighs (Ne x y) x y d n c m (deep-of (Expr-F.Ne x y)) (many-of (Expr-F.Ne x y)) (small-of (Expr-F.Ne x y)) h k) (
-    choose P (bytes_eq w (codes "lt")) (Lt x y) _ (two-weighs (Lt x y) x y d n c m (deep-of (Expr-F.Lt x y)) (many-of (Expr-F.Lt x y)) (small-of (Expr-F.Lt x y)) h k) (
-    choose P (bytes_eq w (codes "le")) (Le x y) _ (two-weighs (Le x y) x y d n c m (deep-of (Expr-F.Le x y)) (many-of (Expr-F.Le x y)) (small-of (Expr-F.Le x y)) h k) (
-    choose P (bytes_eq w (codes "and")) (And x y) _ (two-weighs (And x y) x y d n c m (deep-of (Expr-F.And x y)) (many-of (Expr-F.And x y)) (small-of (Expr-F.And x y)) h k) (
-    choose P (bytes_eq w (codes "or")) (Or x y) _ (two-weighs (Or x y) x y d n c m (deep-of (Expr-F.Or x y)) (many-of (Expr-F.Or x y)) (small-of (Expr-F.Or x y)) h k) (
-    choose P (bytes_eq w (codes "concat")) (Concat x y) _ (two-weighs (Concat x y) x y d n c m (deep-of (Expr-F.Concat x y)) (many-of (Expr-F.Concat x y)) (small-of (Expr-F.Concat x y)) h k) (
-    choose P (bytes_eq w (codes "append")) (Append x y) _ (two-weighs (Append x y) x y d n c m (deep-of (Expr-F.Append x y)) (many-of (Expr-F.Append x y)) (small-of (Expr-F.Append x y)) h k) (
-    choose P (bytes_eq w (codes "contains")) (Contains x y) _ (two-weighs (Contains x y) x y d n c m (deep-of (Expr-F.Contains x y)) (many-of (Expr-F.Contains x y)) (small-of (Expr-F.Contains x y)) h k) (
-    two-weighs (Uuid5 x y) x y d n c m (deep-of (Expr-F.Uuid5 x y)) (many-of (Expr-F.Uuid5 x y)) (small-of (Expr-F.Uuid5 x y)) h k))))))))))))
+binary-weighs two.Add x y d n c m h k = two-weighs (Add x y) x y d n c m (deep-of (Expr-F.Add x y)) (many-of (Expr-F.Add x y)) (small-of (Expr-F.Add x y)) h k
+binary-weighs two.Sub x y d n c m h k = two-weighs (Sub x y) x y d n c m (deep-of (Expr-F.Sub x y)) (many-of (Expr-F.Sub x y)) (small-of (Expr-F.Sub x y)) h k
+binary-weighs two.Mul x y d n c m h k = two-weighs (Mul x y) x y d n c m (deep-of (Expr-F.Mul x y)) (many-of (Expr-F.Mul x y)) (small-of (Expr-F.Mul x y)) h k
+binary-weighs two.Eq x y d n c m h k = two-weighs (Eq x y) x y d n c m (deep-of (Expr-F.Eq x y)) (many-of (Expr-F.Eq x y)) (small-of (Expr-F.Eq x y)) h k
+binary-weighs two.Ne x y d n c m h k = two-weighs (Ne x y) x y d n c m (deep-of (Expr-F.Ne x y)) (many-of (Expr-F.Ne x y)) (small-of (Expr-F.Ne x y)) h k
+binary-weighs two.Lt x y d n c m h k = two-weighs (Lt x y) x y d n c m (deep-of (Expr-F.Lt x y)) (many-of (Expr-F.Lt x y)) (small-of (Expr-F.Lt x y)) h k
+binary-weighs two.Le x y d n c m h k = two-weighs (Le x y) x y d n c m (deep-of (Expr-F.Le x y)) (many-of (Expr-F.Le x y)) (small-of (Expr-F.Le x y)) h k
+binary-weighs two.And x y d n c m h k = two-weighs (And x y) x y d n c m (deep-of (Expr-F.And x y)) (many-of (Expr-F.And x y)) (small-of (Expr-F.And x y)) h k
+binary-weighs two.Or x y d n c m h k = two-weighs (Or x y) x y d n c m (deep-of (Expr-F.Or x y)) (many-of (Expr-F.Or x y)) (small-of (Expr-F.Or x y)) h k
+binary-weighs two.Concat x y d n c m h k = two-weighs (Concat x y) x y d n c m (deep-of (Expr-F.Concat x y)) (many-of (Expr-F.Concat x y)) (small-of (Expr-F.Concat x y)) h k
+binary-weighs two.Append x y d n c m h k = two-weighs (Append x y) x y d n c m (deep-of (Expr-F.Append x y)) (many-of (Expr-F.Append x y)) (small-of (Expr-F.Append x y)) h k
+binary-weighs two.Contains x y d n c m h k = two-weighs (Contains x y) x y d n c m (deep-of (Expr-F.Contains x y)) (many-of (Expr-F.Contains x y)) (small-of (Expr-F.Contains x y)) h k
+binary-weighs two.Uuid5 x y d n c m h k = two-weighs (Uuid5 x y) x y d n c m (deep-of (Expr-F.Uuid5 x y)) (many-of (Expr-F.Uuid5 x y)) (small-of (Expr-F.Uuid5 x y)) h k
 
 three-weighs : (x y z : Expr) (d n c m b l : ℕ) → Weighs d n x → Weighs c m y → Weighs b l z → Weighs (suc (max d (max c (max b 0)))) (suc (n + (m + (l + 0)))) (If x y z)
 unfolding roll-Expr denote.Hole.Carrier.roll
@@ -209,35 +213,39 @@ AllWeigh (s ∷ ss) = Gives (Weighs s.1 s.2) s.0 × AllWeigh ss
 operand-ok : (w : Name) (n : ℕ) (r : Reading Expr) (x : Expr) → operand w n r ≡ Ok x → r ≡ Ok x
 operand-ok w n r x h = under-ok (item_step n) r x (under-ok (member_step w) (under (item_step n) r) x h)
 
-node-weighs : (k : Arity) (w : Name) (body : Data) (ss : List Said) → AllWeigh ss
-    → Gives (Weighs (suc (greatest (children k (map (λ s. s.1) ss)))) (suc (total (children k (map (λ s. s.2) ss))))) (operation k w body (map (λ s. s.0) ss))
-node-weighs Literal w body ss all e h = literal-weighs w body e h
-node-weighs Unary w body [] all e h = cc
-node-weighs Unary w body (s ∷ []) all e h =
-    let a = then-ok (operand w 0 s.0) (λ x. Ok (unary w x)) e h in
-    let same : unary w a.0 ≡ e = let k = a.2 in cc in
-    subst (Weighs (suc (max s.1 0)) (suc (s.2 + 0))) same (unary-weighs w a.0 s.1 s.2 (all.0 a.0 (operand-ok w 0 s.0 a.0 a.1)))
-node-weighs Unary w body (s ∷ t ∷ ss) all e h = cc
-node-weighs Binary w body [] all e h = cc
-node-weighs Binary w body (s ∷ []) all e h = cc
-node-weighs Binary w body (s ∷ t ∷ []) all e h =
-    let a = then-ok (operand w 0 s.0) (λ x. and_then (operand w 1 t.0) (λ y. Ok (binary w x y))) e h in
-    let b = then-ok (operand w 1 t.0) (λ y. Ok (binary w a.0 y)) e a.2 in
-    let same : binary w a.0 b.0 ≡ e = let k = b.2 in cc in
+operator-weighs : (o : Operator) (w : Name) (ss : List Said) → AllWeigh ss
+    → Gives (Weighs (suc (greatest (children o (map (λ s. s.1) ss)))) (suc (total (children o (map (λ s. s.2) ss))))) (operation o w (map (λ s. s.0) ss))
+operator-weighs (One o) w [] all e h = cc
+operator-weighs (One o) w (s ∷ []) all e h =
+    let a = then-ok (operand w 0 s.0) (λ x. Ok (over_one o x)) e h in
+    let same : over_one o a.0 ≡ e = let k = a.2 in cc in
+    subst (Weighs (suc (max s.1 0)) (suc (s.2 + 0))) same (unary-weighs o a.0 s.1 s.2 (all.0 a.0 (operand-ok w 0 s.0 a.0 a.1)))
+operator-weighs (One o) w (s ∷ t ∷ ss) all e h = cc
+operator-weighs (Two o) w [] all e h = cc
+operator-weighs (Two o) w (s ∷ []) all e h = cc
+operator-weighs (Two o) w (s ∷ t ∷ []) all e h =
+    let a = then-ok (operand w 0 s.0) (λ x. and_then (operand w 1 t.0) (λ y. Ok (over_two o x y))) e h in
+    let b = then-ok (operand w 1 t.0) (λ y. Ok (over_two o a.0 y)) e a.2 in
+    let same : over_two o a.0 b.0 ≡ e = let k = b.2 in cc in
     subst (Weighs (suc (max s.1 (max t.1 0))) (suc (s.2 + (t.2 + 0)))) same
-    (binary-weighs w a.0 b.0 s.1 s.2 t.1 t.2 (all.0 a.0 (operand-ok w 0 s.0 a.0 a.1)) (all.1.0 b.0 (operand-ok w 1 t.0 b.0 b.1)))
-node-weighs Binary w body (s ∷ t ∷ u ∷ ss) all e h = cc
-node-weighs Ternary w body [] all e h = cc
-node-weighs Ternary w body (s ∷ []) all e h = cc
-node-weighs Ternary w body (s ∷ t ∷ []) all e h = cc
-node-weighs Ternary w body (s ∷ t ∷ u ∷ []) all e h =
+    (binary-weighs o a.0 b.0 s.1 s.2 t.1 t.2 (all.0 a.0 (operand-ok w 0 s.0 a.0 a.1)) (all.1.0 b.0 (operand-ok w 1 t.0 b.0 b.1)))
+operator-weighs (Two o) w (s ∷ t ∷ u ∷ ss) all e h = cc
+operator-weighs Choice w [] all e h = cc
+operator-weighs Choice w (s ∷ []) all e h = cc
+operator-weighs Choice w (s ∷ t ∷ []) all e h = cc
+operator-weighs Choice w (s ∷ t ∷ u ∷ []) all e h =
     let a = then-ok (operand w 0 s.0) (λ x. and_then (operand w 1 t.0) (λ y. and_then (operand w 2 u.0) (λ z. Ok (If x y z)))) e h in
     let b = then-ok (operand w 1 t.0) (λ y. and_then (operand w 2 u.0) (λ z. Ok (If a.0 y z))) e a.2 in
     let c = then-ok (operand w 2 u.0) (λ z. Ok (If a.0 b.0 z)) e b.2 in
     let same : If a.0 b.0 c.0 ≡ e = let k = c.2 in cc in
     subst (Weighs (suc (max s.1 (max t.1 (max u.1 0)))) (suc (s.2 + (t.2 + (u.2 + 0))))) same
     (three-weighs a.0 b.0 c.0 s.1 s.2 t.1 t.2 u.1 u.2 (all.0 a.0 (operand-ok w 0 s.0 a.0 a.1)) (all.1.0 b.0 (operand-ok w 1 t.0 b.0 b.1)) (all.1.1.0 c.0 (operand-ok w 2 u.0 c.0 c.1)))
-node-weighs Ternary w body (s ∷ t ∷ u ∷ v ∷ ss) all e h = cc
+operator-weighs Choice w (s ∷ t ∷ u ∷ v ∷ ss) all e h = cc
+
+node-weighs : (o : Option Operator) (w : Name) (body : Data) (ss : List Said) → AllWeigh ss
+    → Gives (Weighs (suc (greatest (if_operator o (map (λ s. s.1) ss)))) (suc (total (if_operator o (map (λ s. s.2) ss))))) (worded o w body (map (λ s. s.0) ss))
+node-weighs Absent w body ss all e h = literal-weighs w body e h
+node-weighs (Some o) w body ss all e h = operator-weighs o w ss all e h
 
 mutual
   pub tree-weighs : (d : Data) → Gives (Weighs (depth d) (nodes d)) (spells d)
@@ -254,16 +262,16 @@ mutual
   only-weighs (member w body (member v c ms)) e h = cc
 
   body-weighs : (w : Name) (body : Data) → Gives (Weighs (deeper w body (operands 1 deeper body)) (more w body (operands 1 more body))) (spelled w body (operands (here code.Form) spelled body))
-  body-weighs w null e h = node-weighs (arity w) w null [] tt e h
-  body-weighs w (boolean b) e h = node-weighs (arity w) w (boolean b) [] tt e h
-  body-weighs w (number n) e h = node-weighs (arity w) w (number n) [] tt e h
-  body-weighs w (string s) e h = node-weighs (arity w) w (string s) [] tt e h
+  body-weighs w null e h = node-weighs (operator_of w) w null [] tt e h
+  body-weighs w (boolean b) e h = node-weighs (operator_of w) w (boolean b) [] tt e h
+  body-weighs w (number n) e h = node-weighs (operator_of w) w (number n) [] tt e h
+  body-weighs w (string s) e h = node-weighs (operator_of w) w (string s) [] tt e h
   body-weighs w (array ds) e h =
-      let r : operation (arity w) w (array ds) (map (λ s. s.0) (said_of ds)) ≡ Ok e = sym (ap (operation (arity w) w (array ds)) (readings-of ds)) ∙ h in
-      let x = node-weighs (arity w) w (array ds) (said_of ds) (all-weigh ds) e r in
-      subst (λ ns. Weighs (suc (greatest (children (arity w) ns))) (suc (total (children (arity w) (each 1 more ds)))) e) (sym (depths-of ds))
-      (subst (λ ns. Weighs (suc (greatest (children (arity w) (map (λ s. s.1) (said_of ds))))) (suc (total (children (arity w) ns))) e) (sym (nodes-of ds)) x)
-  body-weighs w (object ms) e h = node-weighs (arity w) w (object ms) [] tt e h
+      let r : worded (operator_of w) w (array ds) (map (λ s. s.0) (said_of ds)) ≡ Ok e = sym (ap (worded (operator_of w) w (array ds)) (readings-of ds)) ∙ h in
+      let x = node-weighs (operator_of w) w (array ds) (said_of ds) (all-weigh ds) e r in
+      subst (λ ns. Weighs (suc (greatest (counted w ns))) (suc (total (counted w (each 1 more ds)))) e) (sym (depths-of ds))
+      (subst (λ ns. Weighs (suc (greatest (counted w (map (λ s. s.1) (said_of ds))))) (suc (total (counted w ns))) e) (sym (nodes-of ds)) x)
+  body-weighs w (object ms) e h = node-weighs (operator_of w) w (object ms) [] tt e h
 
   all-weigh : (ds : Items) → AllWeigh (said_of ds)
   all-weigh no_items = tt
@@ -273,8 +281,8 @@ mutual
 pub expression-ok : Keeps expression is_expr_within
 expression-ok d e h =
     let r = around-ok (spells d) (size_test d) e h in
-    let a = if-ok (nat_le (depth d) 16 && nat_le (nodes d) 200) fine code.Limit tt r.1 in
-    let b = both_true (nat_le (depth d) 16) (nat_le (nodes d) 200) a.0 in
+    let a = if-ok (nat_le (depth d) MOST_LEVELS && nat_le (nodes d) MOST_NODES) fine code.Limit tt r.1 in
+    let b = both_true (nat_le (depth d) MOST_LEVELS) (nat_le (nodes d) MOST_NODES) a.0 in
     let x = tree-weighs d e r.0 in
-    both (nat_le (expr_depth e) 16 && nat_le (expr_nodes e) 200) (has_small_literals e)
-    (both (nat_le (expr_depth e) 16) (nat_le (expr_nodes e) 200) (ap (λ n. nat_le n 16) x.0 ∙ b.0) (ap (λ n. nat_le n 200) x.1 ∙ b.1)) x.2
+    both (nat_le (expr_depth e) MOST_LEVELS && nat_le (expr_nodes e) MOST_NODES) (has_small_literals e)
+    (both (nat_le (expr_depth e) MOST_LEVELS) (nat_le (expr_nodes e) MOST_NODES) (ap (λ n. nat_le n MOST_LEVELS) x.0 ∙ b.0) (ap (λ n. nat_le n MOST_NODES) x.1 ∙ b.1)) x.2

@@ -1,8 +1,7 @@
 -- The system that a document declares.
 use Rattle.std.specs.Prelude.{ℕ, nat_lt, List, [], length, codes, if◌then◌else◌, Option, None, Some, Ok, Err}
-use Rattle.std.specs.Str.{is_utf8}
 use Rattle.serde_json.specs.Data.{Data}
-use Rattle.serde_json.specs.Read.{read}
+use Rattle.es_model.specs.Names.{topic_of}
 use Rattle.es_model.specs.Values.{Name}
 use Rattle.es_model.specs.declared.declaration.Code.TheVariants as code
 use Rattle.es_model.specs.declared.declaration.App.{App}
@@ -16,12 +15,14 @@ use Rattle.es_model.specs.declared.declaration.Rule.{Rule}
 use Rattle.es_model.specs.declared.declaration.System.{System}
 use Rattle.es_model.specs.declared.declaration.Trigger.{Trigger}
 use Rattle.es_model.specs.declared.expr.Expr.{Expr}
+use Rattle.es_model.specs.declared.limits.TheConstants.{MOST_FIELDS, MOST_UPCASTS, MOST_EDITS, MOST_GUARDS, MOST_TRIGGERS, MOST_CLASS_VERSION, MOST_INTERVAL, MOST_EVENTS, MOST_COMMANDS, MOST_CLASSES, MOST_RULES, MOST_SECTION, MOST_APPS, MOST_PIPES, LEAST_MEMBERS, MOST_MEMBERS, MOST_DOCUMENT_BYTES}
 use Rattle.es_model.specs.declared.value.Kind.{Kind}
+use Rattle.es_transcode.specs.Decoded.{tree_in}
 use Rattle.es_expr.specs.Finds.{first}
 use Rattle.es_expr.specs.Misfits.{misfits}
 use Rattle.es_expr.specs.declared.misfit.Misfit.{Misfit}
-use Rattle.es_decl.specs.declared.names.NameForm.{NameForm}
-use Rattle.es_decl.specs.declared.names.NameForm.TheVariants as form
+use Rattle.es_model.specs.declared.names.NameForm.{NameForm}
+use Rattle.es_model.specs.declared.names.NameForm.TheVariants as form
 use Rattle.es_decl.specs.declared.objects.Object.TheVariants as the
 use Rattle.es_decl.specs.Edits.{edit}
 use Rattle.es_decl.specs.Expressions.{expression}
@@ -29,11 +30,11 @@ use Rattle.es_decl.specs.Kinds.{kind}
 use Rattle.es_decl.specs.Objects.{shape_test}
 use Rattle.es_decl.specs.Parts.{member, optional, or_else, name, whole, several, named_parts}
 use Rattle.es_decl.specs.Readings.{Reading, here, and_then}
-use Rattle.es_decl.specs.Words.{topic, otherwise, topic_of}
+use Rattle.es_decl.specs.Words.{topic, otherwise}
 
--- kinds of at most 32 names
+-- kinds of names
 abbrev pub kinds : NameForm → Data → Reading (List (Name × Kind))
-kinds f = named_parts f (Some 32) kind
+kinds f = named_parts f (Some MOST_FIELDS) kind
 
 -- expressions of names
 abbrev pub assigns : NameForm → Data → Reading (List (Name × Expr))
@@ -41,7 +42,7 @@ assigns f = named_parts f None expression
 
 -- for each class version but the last, the edits that lead to the next one
 abbrev pub upcasts : Data → Reading (List (List Edit))
-upcasts = several 0 (Some 100) (several 0 (Some 16) edit)
+upcasts = several 0 (Some MOST_UPCASTS) (several 0 (Some MOST_EDITS) edit)
 
 abbrev pub event : Name → Data → Reading EventClass
 event class d =
@@ -71,20 +72,20 @@ command d =
     and_then (shape_test the.Command d) (λ _.
     and_then (member (codes "name") (name form.Class) d) (λ n.
     and_then (member (codes "params") (kinds form.Plain) d) (λ params.
-    and_then (optional (codes "require") (several 0 (Some 16) guard) d) (λ guards.
-    and_then (member (codes "trigger") (several 1 (Some 8) trigger) d) (λ triggers.
+    and_then (optional (codes "require") (several 0 (Some MOST_GUARDS) guard) d) (λ guards.
+    and_then (member (codes "trigger") (several 1 (Some MOST_TRIGGERS) trigger) d) (λ triggers.
     Ok (record { name = n; params = params; guards = or_else [] guards; triggers = triggers }))))))
 
 abbrev pub class : Data → Reading Class
 class d =
     and_then (shape_test the.Class d) (λ _.
     and_then (member (codes "name") (name form.Class) d) (λ n.
-    and_then (optional (codes "version") (whole 1 1000000) d) (λ version.
-    and_then (optional (codes "interval") (whole 1 1000000) d) (λ interval.
+    and_then (optional (codes "version") (whole 1 MOST_CLASS_VERSION) d) (λ version.
+    and_then (optional (codes "interval") (whole 1 MOST_INTERVAL) d) (λ interval.
     and_then (member (codes "fields") (kinds form.Field) d) (λ fields.
     and_then (member (codes "created") (event n) d) (λ created.
-    and_then (optional (codes "events") (several 0 (Some 32) (event n)) d) (λ events.
-    and_then (optional (codes "commands") (several 0 (Some 32) command) d) (λ commands.
+    and_then (optional (codes "events") (several 0 (Some MOST_EVENTS) (event n)) d) (λ events.
+    and_then (optional (codes "commands") (several 0 (Some MOST_COMMANDS) command) d) (λ commands.
     Ok (record {
       name = n;
       version = or_else 1 version;
@@ -131,17 +132,17 @@ abbrev pub app : Data → Reading App
 app d =
     and_then (shape_test the.App d) (λ _.
     and_then (member (codes "name") (name form.Plain) d) (λ n.
-    and_then (member (codes "classes") (several 0 (Some 64) (name form.Class)) d) (λ classes.
-    and_then (optional (codes "policy") (several 0 (Some 64) rule) d) (λ policies.
-    and_then (optional (codes "section") (whole 1 1000) d) (λ section.
+    and_then (member (codes "classes") (several 0 (Some MOST_CLASSES) (name form.Class)) d) (λ classes.
+    and_then (optional (codes "policy") (several 0 (Some MOST_RULES) rule) d) (λ policies.
+    and_then (optional (codes "section") (whole 1 MOST_SECTION) d) (λ section.
     Ok (record { name = n; classes = classes; policies = or_else [] policies; section_size = section }))))))
 
 abbrev pub document : Data → Reading System
 document d =
     and_then (shape_test the.Document d) (λ _.
     and_then (member (codes "classes") (several 0 None class) d) (λ classes.
-    and_then (member (codes "apps") (several 1 (Some 16) app) d) (λ apps.
-    and_then (member (codes "pipes") (several 0 (Some 32) (several 2 (Some 16) (name form.Plain))) d) (λ pipes.
+    and_then (member (codes "apps") (several 1 (Some MOST_APPS) app) d) (λ apps.
+    and_then (member (codes "pipes") (several 0 (Some MOST_PIPES) (several LEAST_MEMBERS (Some MOST_MEMBERS) (name form.Plain))) d) (λ pipes.
     Ok (record { apps = apps; classes = classes; pipes = pipes })))))
 
 -- the system, where nothing in it doesn't fit together, or what doesn't at first
@@ -155,14 +156,14 @@ fitting s = told s (first (misfits s))
 abbrev pub system_of : Data → Reading System
 system_of d = and_then (document d) fitting
 
--- the tree of a text in UTF-8 that is JSON and nests 127 levels at most
-abbrev pub tree_in : List ℕ → Option Data
-tree_in bytes = if is_utf8 bytes then read bytes else None
-
 abbrev pub of_tree : Option Data → Reading System
 of_tree (Some d) = system_of d
 of_tree None = here code.Json
 
+-- what bytes declare, however many they are
+abbrev pub of_bytes : List ℕ → Reading System
+of_bytes bytes = of_tree (tree_in bytes)
+
 -- the system that a document declares, or its first fault
 abbrev pub declared : List ℕ → Reading System
-declared bytes = if nat_lt 1048576 (length bytes) then here code.Long else of_tree (tree_in bytes)
+declared bytes = if nat_lt MOST_DOCUMENT_BYTES (length bytes) then here code.Long else of_bytes bytes

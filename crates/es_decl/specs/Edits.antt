@@ -11,7 +11,7 @@ use Rattle.es_model.specs.declared.expr.Expr.TheOpen.{Expr-F}
 use Rattle.es_model.specs.declared.value.Atom.TheVariants as atom
 use Rattle.es_model.specs.declared.value.Value.{Value}
 use Rattle.es_model.specs.declared.value.Value.TheVariants.{One, List as Many}
-use Rattle.es_decl.specs.declared.names.NameForm.TheVariants as form
+use Rattle.es_model.specs.declared.names.NameForm.TheVariants as form
 use Rattle.es_decl.specs.Expressions.{literal}
 use Rattle.es_decl.specs.Names.{name_test}
 use Rattle.es_decl.specs.Parts.{sole, two}

@@ -1,4 +1,3 @@
-pub mod Atoms
 pub mod Declaration
 pub mod Distinct
 pub mod Edits
@@ -10,5 +9,5 @@ pub mod Pairs
 pub mod Parts
 pub mod Paths
 pub mod Readings
-pub mod Sizes
 pub mod Words
+pub mod inner

@@ -7,7 +7,7 @@ use Rattle.es_model.specs.Values.{Name}
 use Rattle.es_model.specs.declared.declaration.Code.TheVariants as code
 use Rattle.es_decl.specs.declared.objects.Object.{Object}
 use Rattle.es_decl.specs.declared.objects.Object.TheVariants.{Document, Class, Event, Command, Guard, Trigger, App, Rule}
-use Rattle.es_decl.specs.Names.{is_one_of}
+use Rattle.es_model.specs.Names.{is_one_of}
 use Rattle.es_decl.specs.Paths.{member_step}
 use Rattle.es_decl.specs.Readings.{Reading, fine, here, under}
 

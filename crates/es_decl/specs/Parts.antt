@@ -4,7 +4,7 @@ use Rattle.serde_json.specs.Data.{Data, number, string, array, object, Items, no
 use Rattle.serde_json.specs.Find.{as_i64, get}
 use Rattle.es_model.specs.Values.{Name}
 use Rattle.es_model.specs.declared.declaration.Code.TheVariants as code
-use Rattle.es_decl.specs.declared.names.NameForm.{NameForm}
+use Rattle.es_model.specs.declared.names.NameForm.{NameForm}
 use Rattle.es_decl.specs.Names.{name_test}
 use Rattle.es_decl.specs.Paths.{member_step, item_step}
 use Rattle.es_decl.specs.Readings.{Reading, here, and_then, under, around}

@@ -1,26 +1,14 @@
 -- Topics, and what a refused rule does, as words.
-use Rattle.std.specs.Prelude.{ℕ, not, nat_lt, ◌&&◌, List, ◌∷◌, ◌++◌, length, codes, if◌then◌else◌, Option, None, Some, Ok}
-use Rattle.std.specs.List.{list_any, position_or_len, before_first, after_first}
+use Rattle.std.specs.Prelude.{◌&&◌, codes, if◌then◌else◌, Option, None, Some, Ok}
 use Rattle.std.specs.Str.{bytes_eq}
 use Rattle.serde_json.specs.Data.{Data, string}
+use Rattle.es_model.specs.Names.{halves, has_name_length, is_spelled}
 use Rattle.es_model.specs.Values.{Name}
 use Rattle.es_model.specs.declared.declaration.Code.TheVariants as code
 use Rattle.es_model.specs.declared.declaration.Otherwise.{Otherwise}
 use Rattle.es_model.specs.declared.declaration.Otherwise.TheVariants.{Skip, Refuse}
-use Rattle.es_expr.specs.Limits.{is_dot, has_name_length}
-use Rattle.es_decl.specs.declared.names.NameForm.TheVariants as form
-use Rattle.es_decl.specs.Names.{is_spelled}
+use Rattle.es_model.specs.declared.names.NameForm.TheVariants as form
 use Rattle.es_decl.specs.Readings.{Reading, fine, here, and_then}
-
--- a class name, `.`, and another name
-abbrev pub topic_of : Name → Name → Name
-topic_of class event = class ++ 46 ∷ event
-
--- what stands before the first point and what after it, if there is exactly one
-abbrev pub halves : List ℕ → Option (Name × Name)
-halves s =
-    if nat_lt (position_or_len is_dot s) (length s) && not (list_any is_dot (after_first is_dot s))
-    then Some (before_first is_dot s, after_first is_dot s) else None
 
 -- a bad length of either comes before a bad spelling of either
 abbrev pub both_test : Name → Name → Reading (Unit {0})

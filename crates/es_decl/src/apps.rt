@@ -5,10 +5,11 @@ ghost use Rattle.es_decl.specs.Declaration as spec;
 use crate::DeclFault;
 use crate::classes::AssignsOf;
 use crate::expressions::Expression;
-use crate::names::NameForm;
 use crate::objects::{Object, test_shape};
 use crate::parts::{Number, Part, Several, member, optional, or_else};
 use crate::words::{OtherwiseWord, Topic};
+use es_model::limits::{MOST_CLASSES, MOST_RULES, MOST_SECTION};
+use es_model::names::NameForm;
 use es_model::{App, Assigns, Expr, List, Otherwise, Rule, Text};
 use serde_json::Value;
 use std::alloc::Global;
@@ -71,17 +72,17 @@ impl Part for AppObject {
     fn read(&self, alloc: Global, tree: &Value) -> Result<App, DeclFault> {
         let classes = Several {
             least: 0,
-            most: Some(64),
+            most: Some(MOST_CLASSES),
             part: NameForm::Class,
         };
         let policy = Several {
             least: 0,
-            most: Some(64),
+            most: Some(MOST_RULES),
             part: RuleObject,
         };
         let section = Number {
             least: 1,
-            most: 1000,
+            most: MOST_SECTION,
         };
         test_shape(alloc, Object::App, tree)?;
         let name = member(alloc, tree, "name", &NameForm::Plain)?;

@@ -1,16 +1,18 @@
-ghost use Rattle.std.specs.Prelude.{◌≡◌, IfOk};
 ghost use Rattle.serde_json.specs.View.{view};
-ghost use Rattle.es_decl.specs.Words.{topic_of};
 ghost use Rattle.es_decl.specs.Declaration as spec;
 
 use crate::DeclFault;
 use crate::edits::EditObject;
 use crate::expressions::Expression;
 use crate::kinds::KindWord;
-use crate::names::NameForm;
 use crate::objects::{Object, test_shape};
 use crate::parts::{NamedParts, Number, Part, Several, member, optional, or_else};
-use es_model::{Class, CommandDef, Duplicate, EventClass, Guard, List, NoMemory, Text, Trigger};
+use es_model::limits::{
+    MOST_CLASS_VERSION, MOST_COMMANDS, MOST_EDITS, MOST_EVENTS, MOST_FIELDS, MOST_GUARDS,
+    MOST_INTERVAL, MOST_TRIGGERS, MOST_UPCASTS,
+};
+use es_model::names::{NameForm, topic_of};
+use es_model::{Class, CommandDef, Duplicate, EventClass, Guard, List, Text, Trigger};
 use serde_json::Value;
 use std::alloc::Global;
 
@@ -26,7 +28,7 @@ impl Part for KindsOf {
     fn read(&self, alloc: Global, tree: &Value) -> Result<es_model::Kinds, DeclFault> {
         let parts = NamedParts {
             form: self.0,
-            most: Some(32),
+            most: Some(MOST_FIELDS),
             part: KindWord,
         };
         parts.read(alloc, tree)
@@ -64,25 +66,16 @@ impl Part for UpcastsArray {
     fn read(&self, alloc: Global, tree: &Value) -> Result<es_model::Upcasts, DeclFault> {
         let edits = Several {
             least: 0,
-            most: Some(16),
+            most: Some(MOST_EDITS),
             part: EditObject,
         };
         let upcasts = Several {
             least: 0,
-            most: Some(100),
+            most: Some(MOST_UPCASTS),
             part: edits,
         };
         upcasts.read(alloc, tree)
     }
-}
-
-fn topic_of(alloc: Global, class: &Text, event: &Text) -> Result<Text, NoMemory>
-    ensures { IfOk result (λ t. t ≡ topic_of class.now event.now) }
-{
-    let mut topic = String::from_str(alloc, class.as_str())?;
-    topic.push_str(".")?;
-    topic.push_str(event.as_str())?;
-    Text::from_str(alloc, topic.as_str())
 }
 
 /// An event of a class.
@@ -103,7 +96,7 @@ impl Part for EventOf {
         let upcasts = optional(alloc, tree, "upcasts", &UpcastsArray)?;
         let assigns = member(alloc, tree, "set", &AssignsOf(NameForm::Field))?;
         Ok(EventClass {
-            topic: topic_of(alloc, &self.class, &name)?,
+            topic: topic_of(alloc, self.class.as_str(), name.as_str())?,
             fields,
             upcasts: or_else(List::new(alloc), upcasts),
             assigns,
@@ -157,12 +150,12 @@ impl Part for CommandObject {
     fn read(&self, alloc: Global, tree: &Value) -> Result<CommandDef, DeclFault> {
         let require = Several {
             least: 0,
-            most: Some(16),
+            most: Some(MOST_GUARDS),
             part: GuardObject,
         };
         let trigger = Several {
             least: 1,
-            most: Some(8),
+            most: Some(MOST_TRIGGERS),
             part: TriggerObject,
         };
         test_shape(alloc, Object::Command, tree)?;
@@ -179,10 +172,16 @@ impl Part for CommandObject {
     }
 }
 
-/// A class version, or an interval of snapshots.
+/// A class version.
 const VERSION: Number = Number {
     least: 1,
-    most: 1_000_000,
+    most: MOST_CLASS_VERSION,
+};
+
+/// An interval of snapshots.
+const INTERVAL: Number = Number {
+    least: 1,
+    most: MOST_INTERVAL,
 };
 
 /// A class.
@@ -197,17 +196,17 @@ impl Part for ClassObject {
     fn read(&self, alloc: Global, tree: &Value) -> Result<Class, DeclFault> {
         let commands = Several {
             least: 0,
-            most: Some(32),
+            most: Some(MOST_COMMANDS),
             part: CommandObject,
         };
         test_shape(alloc, Object::Class, tree)?;
         let name = member(alloc, tree, "name", &NameForm::Class)?;
         let version = optional(alloc, tree, "version", &VERSION)?;
-        let interval = optional(alloc, tree, "interval", &VERSION)?;
+        let interval = optional(alloc, tree, "interval", &INTERVAL)?;
         let fields = member(alloc, tree, "fields", &KindsOf(NameForm::Field))?;
         let events = Several {
             least: 0,
-            most: Some(32),
+            most: Some(MOST_EVENTS),
             part: EventOf {
                 class: name.copy()?,
             },

@@ -1,5 +1,4 @@
 ghost use Rattle.std.specs.Prelude.{◌≡◌, IfOk, option_map};
-ghost use Rattle.serde_json.specs.Read.{read};
 ghost use Rattle.serde_json.specs.View.{view};
 ghost use Rattle.es_expr.specs.Checked.{IsCheckedSystem};
 ghost use Rattle.es_decl.specs.Readings.{Reads};
@@ -9,16 +8,15 @@ use crate::DeclFault;
 use crate::apps::AppObject;
 use crate::classes::ClassObject;
 use crate::fault::here;
-use crate::names::NameForm;
 use crate::objects::{Object, test_shape};
 use crate::parts::{Several, member};
 use es_expr::first_misfit;
-use es_model::{Code, NoMemory, System};
+use es_model::limits::{LEAST_MEMBERS, MOST_APPS, MOST_DOCUMENT_BYTES, MOST_MEMBERS, MOST_PIPES};
+use es_model::names::NameForm;
+use es_model::{Code, System};
+use es_transcode::read_tree;
 use serde_json::Value;
 use std::alloc::Global;
-
-// The most bytes of a document.
-const MOST_BYTES: usize = 1_048_576;
 
 fn document(alloc: Global, tree: &Value) -> Result<System, DeclFault>
     ensures { Reads (spec.document (view tree.now)) result }
@@ -30,15 +28,15 @@ fn document(alloc: Global, tree: &Value) -> Result<System, DeclFault>
     };
     let apps = Several {
         least: 1,
-        most: Some(16),
+        most: Some(MOST_APPS),
         part: AppObject,
     };
     let pipes = Several {
         least: 0,
-        most: Some(32),
+        most: Some(MOST_PIPES),
         part: Several {
-            least: 2,
-            most: Some(16),
+            least: LEAST_MEMBERS,
+            most: Some(MOST_MEMBERS),
             part: NameForm::Plain,
         },
     };
@@ -73,31 +71,6 @@ fn system_of(alloc: Global, tree: &Value) -> Result<System, DeclFault>
     fitting(alloc, sys)
 }
 
-fn read_tree(alloc: Global, text: &str) -> Result<Option<Value>, NoMemory>
-    ensures { IfOk result (λ o. option_map view o ≡ read text.now) }
-{
-    match Value::from_str(alloc, text) {
-        Ok(tree) => Ok(Some(tree)),
-        Err(error) => {
-            if error.is_memory() {
-                Err(NoMemory)
-            } else {
-                Ok(None)
-            }
-        }
-    }
-}
-
-// The tree of the bytes, if they are a text that has one.
-fn tree_in(alloc: Global, bytes: &[u8]) -> Result<Option<Value>, NoMemory>
-    ensures { IfOk result (λ o. option_map view o ≡ spec.tree_in bytes.now) }
-{
-    match str::from_utf8(bytes) {
-        Ok(text) => read_tree(alloc, text),
-        Err(_) => Ok(None),
-    }
-}
-
 fn of_tree(alloc: Global, tree: &Option<Value>) -> Result<System, DeclFault>
     ensures { Reads (spec.of_tree (option_map view tree.now)) result }
 {
@@ -110,10 +83,10 @@ fn of_tree(alloc: Global, tree: &Option<Value>) -> Result<System, DeclFault>
 fn declared(alloc: Global, bytes: &[u8]) -> Result<System, DeclFault>
     ensures { Reads (spec.declared bytes.now) result }
 {
-    if bytes.len() > MOST_BYTES {
+    if bytes.len() > MOST_DOCUMENT_BYTES {
         return here(alloc, Code::Long);
     }
-    let tree = tree_in(alloc, bytes)?;
+    let tree = read_tree(alloc, bytes)?;
     of_tree(alloc, &tree)
 }
 

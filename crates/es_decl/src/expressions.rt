@@ -1,100 +1,19 @@
-ghost use Rattle.std.specs.Prelude.{◌≡◌};
 ghost use Rattle.serde_json.specs.View.{view};
 ghost use Rattle.es_decl.specs.Readings.{Reads};
-ghost use Rattle.es_decl.specs.Names.{is_one_of};
 ghost use Rattle.es_decl.specs.Expressions as spec;
-ghost use Rattle.es_decl.specs.Sizes.{IsOnly, IsSingle, IsPair, IsTriple, Spent};
+ghost use Rattle.es_decl.specs.inner.Operands as operands;
+ghost use Rattle.es_decl.specs.inner.Sizes.{IsOnly, IsSingle, IsPair, IsTriple, Spent};
 
 use crate::DeclFault;
 use crate::fault::{around, here, in_item, in_member};
 use crate::literals::literal;
 use crate::parts::Part;
+use es_model::limits::{MOST_LEVELS, MOST_NODES};
+use es_model::operators::{Binary, Operator, Unary};
 use es_model::{Boxed, Code, Expr};
 use serde_json::Value;
 use std::alloc::Global;
 use std::collections::BTreeMap;
-
-// The most levels and the most nodes of an expression.
-const MOST_LEVELS: usize = 16;
-
-const MOST_NODES: usize = 200;
-
-/// How many operands an operator has.
-#[derive(Clone, Copy, Debug, PartialEq, Eq, Drop)]
-pub(crate) enum Arity {
-    Literal,
-    Unary,
-    Binary,
-    Ternary,
-}
-
-fn is_unary(word: &str) -> bool
-    ensures { result ≡ is_one_of spec.unary_words word.now }
-{
-    word == "not" || word == "len" || word == "show"
-}
-
-fn is_binary(word: &str) -> bool
-    ensures { result ≡ is_one_of spec.binary_words word.now }
-{
-    word == "add"
-        || word == "sub"
-        || word == "mul"
-        || word == "eq"
-        || word == "ne"
-        || word == "lt"
-        || word == "le"
-        || word == "and"
-        || word == "or"
-        || word == "concat"
-        || word == "append"
-        || word == "contains"
-        || word == "uuid5"
-}
-
-fn arity_of(word: &str) -> Arity
-    ensures { result ≡ spec.arity word.now }
-{
-    if is_unary(word) {
-        Arity::Unary
-    } else if is_binary(word) {
-        Arity::Binary
-    } else if word == "if" {
-        Arity::Ternary
-    } else {
-        Arity::Literal
-    }
-}
-
-fn unary(word: &str, a: Boxed<Expr>) -> Expr
-    ensures { result ≡ spec.unary word.now a }
-{
-    match word {
-        "not" => Expr::Not(a),
-        "len" => Expr::Len(a),
-        _ => Expr::Show(a),
-    }
-}
-
-fn binary(word: &str, a: Boxed<Expr>, b: Boxed<Expr>) -> Expr
-    ensures { result ≡ spec.binary word.now a b }
-{
-    match word {
-        "add" => Expr::Add(a, b),
-        "sub" => Expr::Sub(a, b),
-        "mul" => Expr::Mul(a, b),
-        "eq" => Expr::Eq(a, b),
-        "ne" => Expr::Ne(a, b),
-        "lt" => Expr::Lt(a, b),
-        "le" => Expr::Le(a, b),
-        "and" => Expr::And(a, b),
-        "or" => Expr::Or(a, b),
-        "concat" => Expr::Concat(a, b),
-        "append" => Expr::Append(a, b),
-        "contains" => Expr::Contains(a, b),
-        _ => Expr::Uuid5(a, b),
-    }
-}
 
 /// The one member of an object.
 pub(crate) fn only(members: &BTreeMap<String, Value>) -> Option<(&str, &Value)>
@@ -153,65 +72,81 @@ fn operand(alloc: Global, word: &str, place: usize, tree: &Value) -> Result<Boxe
 }
 
 #[cycle(reading)]
-fn of_one(alloc: Global, word: &str, body: &Value) -> Result<Expr, DeclFault>
-    ensures { Reads (spec.operation Arity.Unary word.now (view body.now) (spec.spelled_operands (view body.now))) result }
+fn of_one(alloc: Global, word: &str, operator: Unary, items: &[Value]) -> Result<Expr, DeclFault>
+    ensures { Reads (spec.operation (Operator.One operator) word.now (operands.spelled_items items.now)) result }
+{
+    match single(items) {
+        Some(a) => {
+            let a = operand(alloc, word, 0, a)?;
+            Ok(operator.over(a))
+        }
+        None => here(alloc, Code::Form),
+    }
+}
+
+#[cycle(reading)]
+fn of_two(alloc: Global, word: &str, operator: Binary, items: &[Value]) -> Result<Expr, DeclFault>
+    ensures { Reads (spec.operation (Operator.Two operator) word.now (operands.spelled_items items.now)) result }
+{
+    match pair(items) {
+        Some((a, b)) => {
+            let a = operand(alloc, word, 0, a)?;
+            let b = operand(alloc, word, 1, b)?;
+            Ok(operator.over(a, b))
+        }
+        None => here(alloc, Code::Form),
+    }
+}
+
+#[cycle(reading)]
+fn of_three(alloc: Global, word: &str, items: &[Value]) -> Result<Expr, DeclFault>
+    ensures { Reads (spec.operation Operator.Choice word.now (operands.spelled_items items.now)) result }
+{
+    match triple(items) {
+        Some((a, b, c)) => {
+            let a = operand(alloc, word, 0, a)?;
+            let b = operand(alloc, word, 1, b)?;
+            let c = operand(alloc, word, 2, c)?;
+            Ok(Expr::If(a, b, c))
+        }
+        None => here(alloc, Code::Form),
+    }
+}
+
+// An operator over the items of its body.
+#[cycle(reading)]
+fn operation(
+    alloc: Global,
+    word: &str,
+    operator: Operator,
+    items: &[Value],
+) -> Result<Expr, DeclFault>
+    ensures { Reads (spec.operation operator word.now (operands.spelled_items items.now)) result }
+{
+    match operator {
+        Operator::One(operator) => of_one(alloc, word, operator, items),
+        Operator::Two(operator) => of_two(alloc, word, operator, items),
+        Operator::Choice => of_three(alloc, word, items),
+    }
+}
+
+#[cycle(reading)]
+fn operated(alloc: Global, word: &str, operator: Operator, body: &Value) -> Result<Expr, DeclFault>
+    ensures { Reads (spec.operation operator word.now (operands.spelled_operands (view body.now))) result }
 {
     match body {
-        Value::Array(items) => match single(items.as_slice()) {
-            Some(a) => {
-                let a = operand(alloc, word, 0, a)?;
-                Ok(unary(word, a))
-            }
-            None => here(alloc, Code::Form),
-        },
+        Value::Array(items) => operation(alloc, word, operator, items.as_slice()),
         _ => here(alloc, Code::Form),
     }
 }
 
 #[cycle(reading)]
-fn of_two(alloc: Global, word: &str, body: &Value) -> Result<Expr, DeclFault>
-    ensures { Reads (spec.operation Arity.Binary word.now (view body.now) (spec.spelled_operands (view body.now))) result }
+fn worded(alloc: Global, word: &str, body: &Value) -> Result<Expr, DeclFault>
+    ensures { Reads (spec.spelled word.now (view body.now) (operands.spelled_operands (view body.now))) result }
 {
-    match body {
-        Value::Array(items) => match pair(items.as_slice()) {
-            Some((a, b)) => {
-                let a = operand(alloc, word, 0, a)?;
-                let b = operand(alloc, word, 1, b)?;
-                Ok(binary(word, a, b))
-            }
-            None => here(alloc, Code::Form),
-        },
-        _ => here(alloc, Code::Form),
-    }
-}
-
-#[cycle(reading)]
-fn of_three(alloc: Global, word: &str, body: &Value) -> Result<Expr, DeclFault>
-    ensures { Reads (spec.operation Arity.Ternary word.now (view body.now) (spec.spelled_operands (view body.now))) result }
-{
-    match body {
-        Value::Array(items) => match triple(items.as_slice()) {
-            Some((a, b, c)) => {
-                let a = operand(alloc, word, 0, a)?;
-                let b = operand(alloc, word, 1, b)?;
-                let c = operand(alloc, word, 2, c)?;
-                Ok(Expr::If(a, b, c))
-            }
-            None => here(alloc, Code::Form),
-        },
-        _ => here(alloc, Code::Form),
-    }
-}
-
-#[cycle(reading)]
-fn operation(alloc: Global, word: &str, body: &Value) -> Result<Expr, DeclFault>
-    ensures { Reads (spec.spelled word.now (view body.now) (spec.spelled_operands (view body.now))) result }
-{
-    match arity_of(word) {
-        Arity::Literal => literal(alloc, word, body),
-        Arity::Unary => of_one(alloc, word, body),
-        Arity::Binary => of_two(alloc, word, body),
-        Arity::Ternary => of_three(alloc, word, body),
+    match Operator::of_word(word) {
+        Some(operator) => operated(alloc, word, operator, body),
+        None => literal(alloc, word, body),
     }
 }
 
@@ -221,7 +156,7 @@ fn spelled(alloc: Global, tree: &Value) -> Result<Expr, DeclFault>
 {
     match tree {
         Value::Object(members) => match only(members) {
-            Some((word, body)) => operation(alloc, word, body),
+            Some((word, body)) => worded(alloc, word, body),
             None => here(alloc, Code::Form),
         },
         _ => here(alloc, Code::Form),
@@ -230,23 +165,41 @@ fn spelled(alloc: Global, tree: &Value) -> Result<Expr, DeclFault>
 
 // What the operands leave of a budget.
 #[cycle(spending)]
-fn spend_operands(arity: Arity, body: &Value, levels: usize, budget: usize) -> Option<usize>
-    ensures { Spent (spec.greatest (spec.children arity (spec.operand_depths (view body.now)))) (spec.total (spec.children arity (spec.operand_nodes (view body.now)))) levels budget result }
+fn spend_operands(
+    operator: Operator,
+    items: &[Value],
+    levels: usize,
+    budget: usize,
+) -> Option<usize>
+    ensures { Spent (spec.greatest (spec.children operator (operands.item_depths items.now))) (spec.total (spec.children operator (operands.item_nodes items.now))) levels budget result }
 {
-    match (arity, body) {
-        (Arity::Unary, Value::Array(items)) => match single(items.as_slice()) {
+    match operator {
+        Operator::One(_) => match single(items) {
             Some(a) => spend(a, levels, budget),
             None => Some(budget),
         },
-        (Arity::Binary, Value::Array(items)) => match pair(items.as_slice()) {
+        Operator::Two(_) => match pair(items) {
             Some((a, b)) => spend(b, levels, spend(a, levels, budget)?),
             None => Some(budget),
         },
-        (Arity::Ternary, Value::Array(items)) => match triple(items.as_slice()) {
+        Operator::Choice => match triple(items) {
             Some((a, b, c)) => spend(c, levels, spend(b, levels, spend(a, levels, budget)?)?),
             None => Some(budget),
         },
-        _ => Some(budget),
+    }
+}
+
+// The same of the operands in the body of a word.
+#[cycle(spending)]
+fn spend_body(word: &str, body: &Value, levels: usize, budget: usize) -> Option<usize>
+    ensures { Spent (spec.greatest (spec.counted word.now (operands.operand_depths (view body.now)))) (spec.total (spec.counted word.now (operands.operand_nodes (view body.now)))) levels budget result }
+{
+    match Operator::of_word(word) {
+        Some(operator) => match body {
+            Value::Array(items) => spend_operands(operator, items.as_slice(), levels, budget),
+            _ => Some(budget),
+        },
+        None => Some(budget),
     }
 }
 
@@ -260,7 +213,7 @@ fn spend(tree: &Value, levels: usize, budget: usize) -> Option<usize>
     }
     match tree {
         Value::Object(members) => match only(members) {
-            Some((word, body)) => spend_operands(arity_of(word), body, levels - 1, budget - 1),
+            Some((word, body)) => spend_body(word, body, levels - 1, budget - 1),
             None => Some(budget - 1),
         },
         _ => Some(budget - 1),
@@ -289,4 +242,11 @@ impl Part for Expression {
     fn read(&self, alloc: Global, tree: &Value) -> Result<Expr, DeclFault> {
         around(spelled(alloc, tree), test_size(alloc, tree))
     }
+}
+
+/// Reads an expression from its tree, as one that stands in a document.
+pub fn read_expr(alloc: Global, tree: &Value) -> Result<Expr, DeclFault>
+    ensures { Reads (spec.expression (view tree.now)) result }
+{
+    Expression.read(alloc, tree)
 }

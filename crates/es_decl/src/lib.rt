@@ -21,8 +21,6 @@ mod words;
 
 pub use builtin::{SAMPLE, sample};
 pub use document::read_system;
+pub use expressions::read_expr;
 pub use fault::DeclFault;
 pub use pipes::{Pairs, followers, followers_of, leaders, leaders_only, pairs, processors};
-
-#[cfg(test)]
-mod tests;

@@ -7,20 +7,17 @@ ghost use Rattle.es_decl.specs.Paths.{member_step};
 ghost use Rattle.es_decl.specs.Readings.{Reads, under};
 ghost use Rattle.es_decl.specs.Readings as readings;
 ghost use Rattle.es_decl.specs.Expressions as spec;
-ghost use Rattle.es_decl.specs.Atoms as atoms;
+ghost use Rattle.es_decl.specs.inner.Atoms as atoms;
 ghost use Rattle.es_transcode.specs.Spelled as spelled;
 
 use crate::DeclFault;
 use crate::fault::{here, in_member};
 use crate::kinds::atom_kind;
+use es_model::limits::MOST_TEXT_BYTES;
 use es_model::{Atom, AtomKind, Code, Decimal, Expr, Moment, NoMemory, Text};
-use es_transcode::{DatetimeAsIso, DecimalAsStr, Transcoding};
+use es_transcode::{DatetimeAsIso, DecimalAsStr, Transcoding, id_of};
 use serde_json::Value;
 use std::alloc::Global;
-use uuid::Uuid;
-
-// The most bytes of a text.
-const MOST_BYTES: usize = 4096;
 
 fn bool_literal(alloc: Global, body: &Value) -> Result<Expr, DeclFault>
     ensures { Reads (spec.bool_literal (view body.now)) result }
@@ -54,7 +51,7 @@ fn text_literal(alloc: Global, body: &Value) -> Result<Expr, DeclFault>
 {
     match body {
         Value::String(text) => {
-            if text.as_str().len() > MOST_BYTES {
+            if text.as_str().len() > MOST_TEXT_BYTES {
                 long_text(alloc)
             } else {
                 Ok(Expr::Text(Text::from_str(alloc, text.as_str())?))
@@ -64,20 +61,11 @@ fn text_literal(alloc: Global, body: &Value) -> Result<Expr, DeclFault>
     }
 }
 
-fn uuid_in(text: &str) -> Option<Uuid>
-    ensures { result ≡ spec.id_in text.now }
-{
-    match Uuid::parse_str(text) {
-        Ok(id) => Some(id),
-        Err(_) => None,
-    }
-}
-
 fn uuid_literal(alloc: Global, body: &Value) -> Result<Expr, DeclFault>
     ensures { Reads (spec.uuid_literal (view body.now)) result }
 {
     match body {
-        Value::String(text) => match uuid_in(text.as_str()) {
+        Value::String(text) => match id_of(text.as_str()) {
             Some(id) => Ok(Expr::Uuid(id)),
             None => here(alloc, Code::Form),
         },

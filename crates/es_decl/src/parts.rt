@@ -6,7 +6,8 @@ ghost use Rattle.es_decl.specs.Parts as spec;
 
 use crate::DeclFault;
 use crate::fault::{around, here, in_item, in_member};
-use crate::names::{NameForm, test_name};
+use crate::names::test_name;
+use es_model::names::NameForm;
 use es_model::{Code, List, Rising, Text};
 use serde_json::Value;
 use std::alloc::Global;

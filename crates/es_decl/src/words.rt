@@ -1,31 +1,20 @@
-ghost use Rattle.std.specs.Prelude.{◌≡◌, option_map};
 ghost use Rattle.serde_json.specs.View.{view};
 ghost use Rattle.es_decl.specs.Readings.{Reads};
+ghost use Rattle.es_model.specs.Names.{halves};
 ghost use Rattle.es_decl.specs.Words as spec;
 
 use crate::DeclFault;
 use crate::fault::here;
-use crate::names::{NameForm, has_length, is_spelled};
 use crate::parts::Part;
+use es_model::names::{NameForm, halves, has_name_length, is_spelled};
 use es_model::{Code, Otherwise, Text};
 use serde_json::Value;
 use std::alloc::Global;
 
-// What stands before the one point and after it.
-fn halves(text: &str) -> Option<(&str, &str)>
-    ensures { option_map (λ h. (h.0.now, h.1.now)) result ≡ spec.halves text.now }
-{
-    let (before, after) = text.split_once('.')?;
-    if after.as_bytes().contains(&b'.') {
-        return None;
-    }
-    Some((before, after))
-}
-
 fn test_both(alloc: Global, a: &str, b: &str) -> Result<(), DeclFault>
     ensures { Reads (spec.both_test a.now b.now) result }
 {
-    if !has_length(a) || !has_length(b) {
+    if !has_name_length(a) || !has_name_length(b) {
         return here(alloc, Code::Limit);
     }
     if !is_spelled(NameForm::Class, a) || !is_spelled(NameForm::Class, b) {
@@ -35,7 +24,7 @@ fn test_both(alloc: Global, a: &str, b: &str) -> Result<(), DeclFault>
 }
 
 fn test_halves(alloc: Global, text: &str) -> Result<(), DeclFault>
-    ensures { Reads (spec.halves_test (spec.halves text.now)) result }
+    ensures { Reads (spec.halves_test (halves text.now)) result }
 {
     match halves(text) {
         Some((a, b)) => test_both(alloc, a, b),

@@ -1,4 +1,4 @@
-use Rattle.es_decl.specs.declared.names.NameForm.TheVariants.{Field}
+use Rattle.es_model.specs.declared.names.NameForm.TheVariants.{Field}
 use Rattle.es_decl.specs.Names.{name_test}
 use Rattle.es_decl.proofs.edits.test_item.Goals as goal
 

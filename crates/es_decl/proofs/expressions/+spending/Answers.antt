@@ -1,7 +1,8 @@
-use Rattle.std.proofs.Common.{◌≡◌, ◌∙◌, []}
+use Rattle.std.proofs.Common.{◌∙◌, ap, []}
 use Rattle.serde_json.specs.View.{view}
-use Rattle.es_decl.specs.Expressions.{depth, nodes, deeper, more, operand_depths, operand_nodes, children}
-use Rattle.es_decl.proofs.ExpressionLemmas.{folded-none, in-array, no-child, no-children, no-three, leaf-spent, none-spent}
+use Rattle.es_decl.specs.Expressions.{depth, nodes, deeper, more, children}
+use Rattle.es_decl.specs.inner.Operands.{item_depths, item_nodes}
+use Rattle.es_decl.proofs.ExpressionLemmas.{folded-none, no-child, no-children, no-three, leaf-spent, none-spent}
 use Rattle.es_decl.proofs.expressions.+spending.Goals as goal
 
 pub spend-returns-in-None : goal.spend-returns-in-None
@@ -13,26 +14,6 @@ spend-returns-in-None t c =
 
 pub spend_operands-returns-in-None : goal.spend_operands-returns-in-None
 spend_operands-returns-in-None t c =
-    let b = c.args.body.now in
-    let vs = c.as_slice.result.now in
-    let ds : children c.args.arity (operand_depths (view b)) ≡ [] = (λ i. children (c.in-Unary-Array.is-0 i) (in-array 1 deeper b c.in-Unary-Array.items vs c.in-Unary-Array.is-1 c.as_slice.ensures.value i)) ∙ no-child 1 deeper vs c.in-None.ensures in
-    let ns : children c.args.arity (operand_nodes (view b)) ≡ [] = (λ i. children (c.in-Unary-Array.is-0 i) (in-array 1 more b c.in-Unary-Array.items vs c.in-Unary-Array.is-1 c.as_slice.ensures.value i)) ∙ no-child 1 more vs c.in-None.ensures in
-    none-spent _ _ c.args.levels c.args.budget ds ns
-
-pub spend_operands-returns-in-None-pair : goal.spend_operands-returns-in-None-pair
-spend_operands-returns-in-None-pair t c =
-    let b = c.args.body.now in
-    let s = c.as_slice-in-Binary-Array in
-    let vs = s.result.now in
-    let ds : children c.args.arity (operand_depths (view b)) ≡ [] = (λ i. children (c.in-Binary-Array.is-0 i) (in-array 1 deeper b c.in-Binary-Array.items vs c.in-Binary-Array.is-1 s.ensures.value i)) ∙ no-children 1 deeper vs c.in-None-pair.ensures in
-    let ns : children c.args.arity (operand_nodes (view b)) ≡ [] = (λ i. children (c.in-Binary-Array.is-0 i) (in-array 1 more b c.in-Binary-Array.items vs c.in-Binary-Array.is-1 s.ensures.value i)) ∙ no-children 1 more vs c.in-None-pair.ensures in
-    none-spent _ _ c.args.levels c.args.budget ds ns
-
-pub spend_operands-returns-in-None-triple : goal.spend_operands-returns-in-None-triple
-spend_operands-returns-in-None-triple t c =
-    let b = c.args.body.now in
-    let s = c.as_slice-in-Ternary-Array in
-    let vs = s.result.now in
-    let ds : children c.args.arity (operand_depths (view b)) ≡ [] = (λ i. children (c.in-Ternary-Array.is-0 i) (in-array 1 deeper b c.in-Ternary-Array.items vs c.in-Ternary-Array.is-1 s.ensures.value i)) ∙ no-three 1 deeper vs c.in-None-triple.ensures in
-    let ns : children c.args.arity (operand_nodes (view b)) ≡ [] = (λ i. children (c.in-Ternary-Array.is-0 i) (in-array 1 more b c.in-Ternary-Array.items vs c.in-Ternary-Array.is-1 s.ensures.value i)) ∙ no-three 1 more vs c.in-None-triple.ensures in
-    none-spent _ _ c.args.levels c.args.budget ds ns
+    let vs = c.args.items.now in
+    none-spent _ _ c.args.levels c.args.budget
+    (ap (λ o. children o (item_depths vs)) c.in-One.is ∙ no-child 1 deeper c.in-One.field-0 vs c.in-None.ensures) (ap (λ o. children o (item_nodes vs)) c.in-One.is ∙ no-child 1 more c.in-One.field-0 vs c.in-None.ensures)
