@@ -11,20 +11,22 @@ use Rattle.uuid.specs.Text.{simple_text, lower, parsed}
 use Rattle.serde_json.specs.Data.{Num, unsigned, negative, float, Data, null, boolean, number, string, array, object, Items, no_items, item, Members, no_members, member}
 use Rattle.serde_json.specs.Find.{get, get_member, as_u64, of_integer}
 use Rattle.serde_json.specs.Read.{read, max_depth}
+use Rattle.es_model.specs.Names.{halves, topic_of}
 use Rattle.es_model.specs.Values.{Name, Id, Record, IsValid}
 use Rattle.es_model.specs.declared.declaration.System.{System}
 use Rattle.es_model.specs.declared.value.Atom.{Atom}
 use Rattle.es_model.specs.declared.value.Atom.TheVariants as atom
 use Rattle.es_model.specs.declared.value.Value.{Value}
 use Rattle.es_model.specs.declared.value.Value.TheVariants as value
+use Rattle.es_model.specs.declared.limits.TheConstants.{MOST_EXPECTED}
 use Rattle.es_transcode.specs.CanonicalText.{record_tree}
 use Rattle.es_transcode.specs.Decoded.{tree_in, record_in}
 use Rattle.es_transcode.specs.RecordText.{IsAtomTree, AreAtomTrees, IsValueTree, AreMembers, IsRecordTree}
 use Rattle.es_transcode.proofs.CanonicalLemmas.{only-record_tree}
 use Rattle.es_transcode.proofs.DecodedLemmas.{tree-of-record}
 use Rattle.es_domain.specs.declared.command.Command.{Command}
-use Rattle.es_lines.specs.CommandText.{do_text, with_expected, command_tree, command_text, is_absent_or_expectable}
-use Rattle.es_lines.specs.Requests.{Asked, asks, and_then, has_form, text_in, halves, is_expectable, if_expectable, version_in, expected, text_of, names, id, args, target, command, members, spelled, request_in, IsDeclared}
+use Rattle.es_lines.specs.CommandText.{with_expected, command_tree, command_text, is_absent_or_expectable}
+use Rattle.es_lines.specs.Requests.{Asked, asks, and_then, has_form, text_in, is_expectable, if_expectable, version_in, expected, text_of, names, id, args, target, command, members, spelled, request_in, IsDeclared}
 use Rattle.es_lines.proofs.IdLemmas.{parsed-again, utf8-simple}
 use Rattle.es_lines.proofs.PointLemmas.{halves-joined}
 use Rattle.es_lines.proofs.RequestLemmas.{asked-of}
@@ -138,7 +140,7 @@ expected-fits (Some d) v is = some-version (version_in d) v (λ n e. version-in 
 -- it can be written, and what is written of it is sound
 record IsSpelled (c : Command) : Type 0 where
   writable : IsWritable c
-  names : IsUtf8 (do_text c)
+  names : IsUtf8 (topic_of c.class c.name)
   args : IsSound (record_tree c.args)
   whole : HasWhole (record_tree c.args)
 
@@ -180,7 +182,7 @@ sound-tree app c (Some n) utf8 s =
     (IsUtf8-are_ascii (codes "app") refl, refl, utf8, (IsUtf8-are_ascii (codes "args") refl, refl, s.args, (IsUtf8-are_ascii (codes "do") refl, refl, s.names, (IsUtf8-are_ascii (codes "expect") refl, refl, tt, (IsUtf8-are_ascii (codes "id") refl, tt, utf8-simple c.id, tt)))))
 
 small : (n : ℕ) → IsTrue (is_expectable n) → n < 2 ^ 64
-small n is = let most : n ≤ 1099511627776 = leb-true n 1099511627776 is in omega (arith, most)
+small n is = let most : n ≤ MOST_EXPECTED = leb-true n MOST_EXPECTED is in omega (arith, most)
 
 whole-tree : (app : Name) (c : Command) (v : Option ℕ) → IsTrue (is_absent_or_expectable v) → IsSpelled c → HasWhole (tree_with app c v)
 whole-tree app c None fits s = (tt, (s.whole, (tt, (tt, tt))))

@@ -1,6 +1,7 @@
 pub mod CanonicalLemmas
 pub mod ContentLemmas
 pub mod IdLemmas
+pub mod ObjectLemmas
 pub mod PointLemmas
 pub mod RequestLemmas
 pub mod TextLemmas

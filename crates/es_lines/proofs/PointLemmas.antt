@@ -4,9 +4,8 @@ use Rattle.std.proofs.Math.Seq.{take-append_seam, drop-append-add}
 use Rattle.std.proofs.lemmas.Bool.{eqb-true, lt-ltb, ltb-true}
 use Rattle.std.proofs.lemmas.List.{length-append}
 use Rattle.std.specs.List.{list_any, list_all, position_or_len, before_first, after_first}
+use Rattle.es_model.specs.Names.{halves, is_dot, is_digit, is_lower, is_upper, is_in_upper_name, has_upper_form, has_name_length, is_upper_name}
 use Rattle.es_model.specs.Values.{Name}
-use Rattle.es_expr.specs.Limits.{is_dot, is_digit, is_lower, is_upper, is_in_upper_name, has_upper_form, has_name_length, is_upper_name}
-use Rattle.es_lines.specs.Requests.{halves}
 
 -- ---- a text with one point is what stands around it
 

@@ -5,13 +5,14 @@ use Rattle.std.specs.List.{Contains, list_all}
 use Rattle.std.specs.Str.{bytes_eq}
 use Rattle.serde_json.specs.Data.{Data}
 use Rattle.es_model.specs.Declaration.{app_named, class_named, command_in}
+use Rattle.es_model.specs.Names.{is_upper_name, is_field_name, is_lower_name}
 use Rattle.es_model.specs.Values.{Name, Record, are_of_kinds}
 use Rattle.es_model.specs.declared.declaration.App.{App}
 use Rattle.es_model.specs.declared.declaration.Class.{Class}
 use Rattle.es_model.specs.declared.declaration.CommandDef.{CommandDef}
 use Rattle.es_model.specs.declared.declaration.System.{System}
 use Rattle.es_expr.specs.Checked.{IsCheckedSystem}
-use Rattle.es_expr.specs.Limits.{is_upper_name, are_numbers_within, are_kinds_within, is_field_name, is_lower_name, is_event_within, are_events_within, is_class_within, are_commands_within, is_command_within, are_guards_within, are_triggers_within}
+use Rattle.es_expr.specs.Limits.{are_numbers_within, are_kinds_within, is_event_within, are_events_within, is_class_within, are_commands_within, is_command_within, are_guards_within, are_triggers_within}
 use Rattle.es_expr.proofs.TopicLemmas.{passed, class-within}
 use Rattle.es_domain.specs.Decision.{IsOfCommand}
 use Rattle.es_domain.specs.Effect.{command_named, declared_in, with_def}
@@ -22,7 +23,8 @@ use Rattle.es_transcode.specs.RecordText.{IsRecordTree}
 use Rattle.es_transcode.specs.declared.fault.DecodeFault.{DecodeFault}
 use Rattle.es_transcode.specs.declared.fault.DecodeFault.TheVariants as decode
 use Rattle.es_transcode.proofs.DecodedLemmas.{no-record}
-use Rattle.es_lines.specs.Requests.{Asked, asks, refused, has_class, of_definition, fitting, asked_of, request_in, fault_of, Reads, Tests, IsDeclared}
+use Rattle.es_lines.specs.Requests.{Asked, asks, refused, has_class, of_definition, fitting, asked_of, request_in, IsDeclared}
+use Rattle.es_lines.specs.inner.Parts.{fault_of, Reads, Tests}
 use Rattle.es_lines.specs.declared.fault.LineFault.{LineFault}
 use Rattle.es_lines.specs.declared.fault.LineFault.TheVariants as fault
 

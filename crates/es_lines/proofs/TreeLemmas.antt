@@ -8,6 +8,7 @@ use Rattle.serde_json.specs.Read.{read, max_depth}
 use Rattle.serde_json.specs.View.{view}
 use Rattle.serde_json.specs.declared.value.Value.{the_lemmas, String as TextTree}
 use Rattle.serde_json.specs.Written.{has_float, items_have_float, members_have_float}
+use Rattle.es_model.specs.Names.{halves, topic_of}
 use Rattle.es_model.specs.Values.{Name, Id, Record}
 use Rattle.es_model.specs.declared.declaration.System.{System}
 use Rattle.es_model.specs.declared.value.Atom.{Atom}
@@ -20,8 +21,9 @@ use Rattle.es_transcode.specs.RecordText.{IsRecordTree}
 use Rattle.es_transcode.proofs.CanonicalLemmas.{only-record_tree}
 use Rattle.es_transcode.proofs.DecodedLemmas.{record-of-tree}
 use Rattle.es_domain.specs.declared.command.Command.{Command}
-use Rattle.es_lines.specs.CommandText.{do_text, command_tree, with_expected, put_expected, is_absent_or_expectable}
-use Rattle.es_lines.specs.Requests.{and_then, halves, expected, if_expectable, is_expectable, spelled, asks, asked_of, request_in, IsDeclared}
+use Rattle.es_lines.specs.CommandText.{command_tree, with_expected, is_absent_or_expectable}
+use Rattle.es_lines.specs.inner.Parts.{put_expected}
+use Rattle.es_lines.specs.Requests.{and_then, expected, if_expectable, is_expectable, spelled, asks, asked_of, request_in, IsDeclared}
 use Rattle.es_lines.proofs.RequestLemmas.{asks-fitting}
 
 -- ---- it is read as the command
@@ -49,12 +51,12 @@ abbrev pub tree_with : Name → Command → Option ℕ → Data
 tree_with app c v = object
     (member (codes "app") (string app)
     (member (codes "args") (record_tree c.args)
-    (member (codes "do") (string (do_text c))
+    (member (codes "do") (string (topic_of c.class c.name))
     (with_expected v
     (member (codes "id") (string (simple_text lower c.id))
     no_members)))))
 
-spelled-with : (app : Name) (c : Command) (v : Option ℕ) → c.expect ≡ v → IsTrue (is_absent_or_expectable v) → halves (do_text c) ≡ Some (c.class, c.name) → parsed (simple_text lower c.id) ≡ Some c.id
+spelled-with : (app : Name) (c : Command) (v : Option ℕ) → c.expect ≡ v → IsTrue (is_absent_or_expectable v) → halves (topic_of c.class c.name) ≡ Some (c.class, c.name) → parsed (simple_text lower c.id) ≡ Some c.id
     → record_in (record_tree c.args) ≡ Some c.args → spelled (tree_with app c v) ≡ Some (app, c)
 spelled-with app c None same fits names id args = whole app c _ _ _ _ names id args (ap (λ v. Some v) (sym same))
 spelled-with app c (Some n) same fits names id args =
@@ -62,7 +64,7 @@ spelled-with app c (Some n) same fits names id args =
 
 -- a command that can be written so
 pub record IsWritable (c : Command) : Type 0 where
-  pub names : halves (do_text c) ≡ Some (c.class, c.name)
+  pub names : halves (topic_of c.class c.name) ≡ Some (c.class, c.name)
   pub id : parsed (simple_text lower c.id) ≡ Some c.id
   pub args : record_in (record_tree c.args) ≡ Some c.args
   pub expect : IsTrue (is_absent_or_expectable c.expect)
@@ -142,12 +144,12 @@ flat-tree app c = flat-with app c c.expect
 abbrev built : Data → Data → Data → Option ℕ → Data → Members
 built x a d v i = put (codes "id") i (put_expected v (put (codes "do") d (put (codes "args") a (put (codes "app") x no_members))))
 
-built-with : (app : Name) (c : Command) (v : Option ℕ) → object (built (string app) (record_tree c.args) (string (do_text c)) v (string (simple_text lower c.id))) ≡ tree_with app c v
+built-with : (app : Name) (c : Command) (v : Option ℕ) → object (built (string app) (record_tree c.args) (string (topic_of c.class c.name)) v (string (simple_text lower c.id))) ≡ tree_with app c v
 built-with app c None = refl
 built-with app c (Some n) = refl
 
 pub built-tree : (app : Name) (c : Command) (m0 m1 m2 m3 m4 m5 : Members) (x a d i : Data) → m0 ≡ no_members → m1 ≡ put (codes "app") x m0 → m2 ≡ put (codes "args") a m1 → m3 ≡ put (codes "do") d m2
-    → m4 ≡ put_expected c.expect m3 → m5 ≡ put (codes "id") i m4 → x ≡ string app → a ≡ record_tree c.args → d ≡ string (do_text c) → i ≡ string (simple_text lower c.id) → object m5 ≡ command_tree app c
+    → m4 ≡ put_expected c.expect m3 → m5 ≡ put (codes "id") i m4 → x ≡ string app → a ≡ record_tree c.args → d ≡ string (topic_of c.class c.name) → i ≡ string (simple_text lower c.id) → object m5 ≡ command_tree app c
 built-tree app c m0 m1 m2 m3 m4 m5 x a d i e0 e1 e2 e3 e4 e5 ex ea ed ei =
     let all : m5 ≡ built x a d c.expect i =
     e5 ∙ ap (put (codes "id") i) (e4 ∙ ap (put_expected c.expect) (e3 ∙ ap (put (codes "do") d) (e2 ∙ ap (put (codes "args") a) (e1 ∙ ap (put (codes "app") x) e0)))) in

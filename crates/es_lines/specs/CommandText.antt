@@ -1,9 +1,9 @@
 -- The canonical text of a command, as a function of it.
-use Rattle.std.specs.Prelude.{ℕ, ◌≡◌, IsTrue, Bool, true, false, not, List, [], ◌∷◌, ◌++◌, codes, Option, None, Some}
-use Rattle.std.specs.List.{list_any}
-use Rattle.serde_json.specs.Data.{Data, unsigned, number, string, object, Members, no_members, member, put}
+use Rattle.std.specs.Prelude.{ℕ, IsTrue, Bool, true, List, codes, Option, None, Some}
+use Rattle.serde_json.specs.Data.{Data, unsigned, number, string, object, Members, no_members, member}
 use Rattle.serde_json.specs.Written.{compact_text}
 use Rattle.uuid.specs.Text.{simple_text, lower}
+use Rattle.es_model.specs.Names.{topic_of}
 use Rattle.es_model.specs.Values.{Name}
 use Rattle.es_model.specs.declared.declaration.System.{System}
 use Rattle.es_transcode.specs.CanonicalText.{record_tree}
@@ -11,26 +11,17 @@ use Rattle.es_expr.specs.Checked.{IsCheckedSystem}
 use Rattle.es_domain.specs.declared.command.Command.{Command}
 use Rattle.es_lines.specs.Requests.{IsDeclared, is_expectable}
 
--- the class, a point, and the name
-abbrev pub do_text : Command → List ℕ
-do_text c = c.class ++ 46 ∷ c.name
-
 -- the member of the expected version, if there is one, before others
 abbrev pub with_expected : Option ℕ → Members → Members
 with_expected None ms = ms
 with_expected (Some n) ms = member (codes "expect") (number (unsigned n)) ms
-
--- the same, put at its place
-abbrev pub put_expected : Option ℕ → Members → Members
-put_expected None ms = ms
-put_expected (Some n) ms = put (codes "expect") (number (unsigned n)) ms
 
 -- the members, in byte order
 abbrev pub command_tree : Name → Command → Data
 command_tree app c = object
     (member (codes "app") (string app)
     (member (codes "args") (record_tree c.args)
-    (member (codes "do") (string (do_text c))
+    (member (codes "do") (string (topic_of c.class c.name))
     (with_expected c.expect
     (member (codes "id") (string (simple_text lower c.id))
     no_members)))))

@@ -1,3 +1,4 @@
 pub mod CommandText
 pub mod Requests
 pub mod Texts
+pub mod inner

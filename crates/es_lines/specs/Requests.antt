@@ -1,20 +1,17 @@
 -- What a line asks of a system.
-use Rattle.std.specs.Prelude.{ℕ, ◌≡◌, IsTrue, not, nat_le, nat_lt, Bool, true, false, ◌&&◌, List, [], ◌∷◌, length, codes, if◌then◌else◌, Option, None, Some, option_map, Result, Ok, Err}
-use Rattle.std.specs.List.{list_any, position_or_len, before_first, after_first}
-use Rattle.std.specs.Str.{bytes_eq}
+use Rattle.std.specs.Prelude.{ℕ, ◌≡◌, IsTrue, nat_le, Bool, true, false, ◌&&◌, List, [], ◌∷◌, codes, if◌then◌else◌, Option, None, Some, option_map, Result, Ok, Err}
 use Rattle.uuid.specs.Text.{parsed}
 use Rattle.serde_json.specs.Data.{Data, number, string, object, Members, no_members, member}
 use Rattle.serde_json.specs.Find.{get, as_u64}
 use Rattle.es_model.specs.Declaration.{app_named}
+use Rattle.es_model.specs.Names.{halves, is_one_of}
 use Rattle.es_model.specs.Values.{Name, Id, Record, are_of_kinds}
 use Rattle.es_model.specs.declared.declaration.App.{App}
 use Rattle.es_model.specs.declared.declaration.Class.{Class}
 use Rattle.es_model.specs.declared.declaration.CommandDef.{CommandDef}
 use Rattle.es_model.specs.declared.declaration.System.{System}
+use Rattle.es_model.specs.declared.limits.TheConstants.{MOST_EXPECTED}
 use Rattle.es_transcode.specs.Decoded.{tree_in, record_in}
-use Rattle.es_transcode.specs.declared.fault.DecodeFault.{DecodeFault}
-use Rattle.es_transcode.specs.declared.fault.DecodeFault.TheVariants as decode
-use Rattle.es_expr.specs.Limits.{is_dot}
 use Rattle.es_domain.specs.Decision.{IsOfCommand}
 use Rattle.es_domain.specs.Effect.{command_named}
 use Rattle.es_domain.specs.declared.command.Command.{Command}
@@ -35,9 +32,6 @@ abbrev pub and_then : {A B : Type 0} → Option A → (A → Option B) → Optio
 and_then None next = None
 and_then (Some x) next = next x
 
-abbrev pub is_one_of : List Name → Name → Bool
-is_one_of names name = list_any (λ n. bytes_eq name n) names
-
 abbrev pub is_member : Name → Bool
 is_member = is_one_of (codes "app" ∷ codes "args" ∷ codes "do" ∷ codes "expect" ∷ codes "id" ∷ [])
 
@@ -54,15 +48,9 @@ abbrev pub text_in : Data → Option (List ℕ)
 text_in (string s) = Some s
 text_in d = None
 
--- what stands before the first point and what after it, if there is exactly one
-abbrev pub halves : List ℕ → Option (Name × Name)
-halves s =
-    if nat_lt (position_or_len is_dot s) (length s) && not (list_any is_dot (after_first is_dot s))
-    then Some (before_first is_dot s, after_first is_dot s) else None
-
 -- a version that may be expected
 abbrev pub is_expectable : ℕ → Bool
-is_expectable n = nat_le n 1099511627776
+is_expectable n = nat_le n MOST_EXPECTED
 
 abbrev pub if_expectable : Option ℕ → Option ℕ
 if_expectable None = None
@@ -133,28 +121,11 @@ request_in sys bytes = asked_of sys (and_then (tree_in bytes) spelled)
 
 -- ---- what is answered
 
--- what is read, or that it isn't there, or want of memory
-abbrev pub Reads : {A : Type 0} → Option A → Result A LineFault → Type 0
-Reads o (Ok x) = o ≡ Some x
-Reads o (Err Syntax) = o ≡ None
-Reads o (Err NoMemory) = Unit {0}
-Reads o (Err f) = ⊥
-
--- a fault of a record, as one of its line
-abbrev pub fault_of : DecodeFault → LineFault
-fault_of decode.NoMemory = NoMemory
-fault_of f = Syntax
-
 -- an answer is what a line asks, or want of memory
 abbrev pub Answers : Asked → Result Request LineFault → Type 0
 Answers asked (Ok (Do app c)) = asked ≡ asks app c
 Answers asked (Err NoMemory) = Unit {0}
 Answers asked (Err f) = asked ≡ refused f
-
--- a command is what is asked, or the reason why it isn't
-abbrev pub Tests : Asked → Name → Command → Result (Unit {0}) LineFault → Type 0
-Tests asked app c (Ok done) = asked ≡ asks app c
-Tests asked app c (Err f) = asked ≡ refused f
 
 -- an application has a command's class, which declares the command with such arguments
 pub record IsDeclared (sys : System) (app : Name) (c : Command) : Type 0 where

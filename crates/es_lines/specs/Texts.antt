@@ -1,7 +1,6 @@
--- The texts of replies and of the end line.
-use Rattle.std.specs.Prelude.{ℕ, List, [], ◌∷◌, ◌++◌, codes}
-use Rattle.std.specs.Fmt.{decimal}
-use Rattle.serde_json.specs.Data.{string}
+-- The texts of replies and of the end line: the canonical texts of trees.
+use Rattle.std.specs.Prelude.{ℕ, Bool, true, false, List, [], ◌∷◌, codes}
+use Rattle.serde_json.specs.Data.{Data, unsigned, number, string, object, Members, no_members, member}
 use Rattle.serde_json.specs.Written.{compact_text}
 use Rattle.es_model.specs.Values.{Name}
 use Rattle.es_model.specs.declared.declaration.Code.{Code}
@@ -11,31 +10,46 @@ use Rattle.es_lines.specs.declared.replies.Reply.TheVariants as reply
 use Rattle.es_lines.specs.declared.ends.End.{End}
 use Rattle.es_lines.specs.declared.ends.End.TheVariants.{Ok, Memory, Usage, Declaration, System, Input, Recorder, Refused, Turns, Unreadable, Full, Over, NotBuilt}
 
--- the text of a reply, by which a line is answered
+-- ---- members, before others
+
+abbrev pub text : List ℕ → List ℕ → Members → Members
+text name s ms = member name (string s) ms
+
+abbrev pub count : List ℕ → ℕ → Members → Members
+count name n ms = member name (number (unsigned n)) ms
+
+-- an object whose only member is a text
+abbrev pub lone : List ℕ → List ℕ → Data
+lone name s = object (text name s no_members)
+
+-- ---- the reply to a line
+
+abbrev pub reply_tree : Reply → Data
+reply_tree (reply.Accepted recording first last version) =
+    object
+    (count (codes "first") first
+    (count (codes "last") last
+    (text (codes "ok") (codes "do")
+    (count (codes "recording") recording
+    (count (codes "version") version
+    no_members)))))
+reply_tree (reply.Refused code) = object (text (codes "code") code (text (codes "error") (codes "refused") no_members))
+reply_tree reply.Syntax = lone (codes "error") (codes "syntax")
+reply_tree reply.Unknown = lone (codes "error") (codes "unknown")
+reply_tree reply.Kind = lone (codes "error") (codes "kind")
+reply_tree reply.Long = lone (codes "error") (codes "long")
+reply_tree (reply.Conflict latest) = object (text (codes "error") (codes "conflict") (count (codes "latest") latest no_members))
+reply_tree (reply.Unreadable app id) = object (text (codes "app") app (text (codes "error") (codes "unreadable") (count (codes "id") id no_members)))
+
 abbrev pub reply_text : Reply → List ℕ
-reply_text (reply.Accepted recording first last version) =
-    codes "{\"first\":" ++ (decimal first ++ (codes ",\"last\":" ++ (decimal last ++ (codes ",\"ok\":\"do\",\"recording\":" ++ (decimal recording ++ (codes ",\"version\":" ++ (decimal version ++ codes "}")))))))
-reply_text (reply.Refused code) = codes "{\"code\":\"" ++ (code ++ codes "\",\"error\":\"refused\"}")
-reply_text reply.Syntax = codes "{\"error\":\"syntax\"}"
-reply_text reply.Unknown = codes "{\"error\":\"unknown\"}"
-reply_text reply.Kind = codes "{\"error\":\"kind\"}"
-reply_text reply.Long = codes "{\"error\":\"long\"}"
-reply_text (reply.Conflict latest) = codes "{\"error\":\"conflict\",\"latest\":" ++ (decimal latest ++ codes "}")
-reply_text (reply.Unreadable app id) = codes "{\"app\":\"" ++ (app ++ (codes "\",\"error\":\"unreadable\",\"id\":" ++ (decimal id ++ codes "}")))
+reply_text r = compact_text (reply_tree r)
 
--- a member of an object
-abbrev pub count_text : Name × ℕ → List ℕ
-count_text x = codes "\"" ++ (x.0 ++ (codes "\":" ++ decimal x.1))
+-- ---- the end of a run
 
--- the members after the first, each after a comma
-abbrev pub more_counts : List (Name × ℕ) → List ℕ
-more_counts [] = []
-more_counts (x ∷ xs) = codes "," ++ (count_text x ++ more_counts xs)
-
--- the members of an object
-abbrev pub counts_text : List (Name × ℕ) → List ℕ
-counts_text [] = []
-counts_text (x ∷ xs) = count_text x ++ more_counts xs
+-- how many recordings each application has added
+abbrev pub counts : List (Name × ℕ) → Members
+counts [] = no_members
+counts (x ∷ xs) = count x.0 x.1 (counts xs)
 
 -- the word of a code
 abbrev pub code_text : Code → List ℕ
@@ -51,25 +65,67 @@ code_text code.Fields = codes "fields"
 code_text code.Order = codes "order"
 code_text code.Pipe = codes "pipe"
 
--- the end of a run at a refused notification: the object up to the id, and the other members
-abbrev pub refused_start : Name → List ℕ → ℕ → List ℕ
-refused_start app code id = codes "{\"app\":\"" ++ (app ++ (codes "\",\"code\":\"" ++ (code ++ (codes "\",\"end\":\"refused\",\"id\":" ++ decimal id))))
+abbrev pub end_tree : End → Data
+end_tree (Ok added lines) =
+    object
+    (member (codes "added") (object (counts added))
+    (text (codes "end") (codes "ok")
+    (count (codes "lines") lines
+    no_members)))
+end_tree Memory = lone (codes "end") (codes "memory")
+end_tree Usage = lone (codes "end") (codes "usage")
+end_tree (Declaration code path) =
+    object
+    (text (codes "code") (code_text code)
+    (text (codes "end") (codes "declaration")
+    (text (codes "path") path
+    no_members)))
+end_tree System = lone (codes "end") (codes "system")
+end_tree Input = lone (codes "end") (codes "input")
+end_tree Recorder = lone (codes "end") (codes "recorder")
+end_tree (Refused app leader id recordings code rule) =
+    object
+    (text (codes "app") app
+    (text (codes "code") code
+    (text (codes "end") (codes "refused")
+    (count (codes "id") id
+    (text (codes "leader") leader
+    (count (codes "recordings") recordings
+    (count (codes "rule") rule
+    no_members)))))))
+end_tree (Turns app turns) =
+    object
+    (text (codes "app") app
+    (text (codes "end") (codes "turns")
+    (count (codes "turns") turns
+    no_members)))
+end_tree (Unreadable app id) =
+    object
+    (text (codes "app") app
+    (text (codes "end") (codes "unreadable")
+    (count (codes "id") id
+    no_members)))
+end_tree (Full app last capacity) =
+    object
+    (text (codes "app") app
+    (count (codes "capacity") capacity
+    (text (codes "end") (codes "full")
+    (count (codes "last") last
+    no_members))))
+end_tree Over = lone (codes "end") (codes "over")
+end_tree NotBuilt = lone (codes "end") (codes "not-built")
 
-abbrev pub refused_end : Name → ℕ → ℕ → List ℕ
-refused_end leader recordings rule = codes ",\"leader\":\"" ++ (leader ++ (codes "\",\"recordings\":" ++ (decimal recordings ++ (codes ",\"rule\":" ++ (decimal rule ++ codes "}")))))
-
--- the end line's text
+-- the end line, without its line feed
 abbrev pub end_text : End → List ℕ
-end_text (Ok added lines) = codes "{\"added\":{" ++ (counts_text added ++ (codes "},\"end\":\"ok\",\"lines\":" ++ (decimal lines ++ codes "}")))
-end_text Memory = codes "{\"end\":\"memory\"}"
-end_text Usage = codes "{\"end\":\"usage\"}"
-end_text (Declaration code path) = codes "{\"code\":\"" ++ (code_text code ++ (codes "\",\"end\":\"declaration\",\"path\":" ++ (compact_text (string path) ++ codes "}")))
-end_text System = codes "{\"end\":\"system\"}"
-end_text Input = codes "{\"end\":\"input\"}"
-end_text Recorder = codes "{\"end\":\"recorder\"}"
-end_text (Refused app leader id recordings code rule) = refused_start app code id ++ refused_end leader recordings rule
-end_text (Turns app turns) = codes "{\"app\":\"" ++ (app ++ (codes "\",\"end\":\"turns\",\"turns\":" ++ (decimal turns ++ codes "}")))
-end_text (Unreadable app id) = codes "{\"app\":\"" ++ (app ++ (codes "\",\"end\":\"unreadable\",\"id\":" ++ (decimal id ++ codes "}")))
-end_text (Full app last capacity) = codes "{\"app\":\"" ++ (app ++ (codes "\",\"capacity\":" ++ (decimal capacity ++ (codes ",\"end\":\"full\",\"last\":" ++ (decimal last ++ codes "}")))))
-end_text Over = codes "{\"end\":\"over\"}"
-end_text NotBuilt = codes "{\"end\":\"not-built\"}"
+end_text e = compact_text (end_tree e)
+
+-- the ends that have no member but their word
+abbrev pub is_fixed : End → Bool
+is_fixed Memory = true
+is_fixed Usage = true
+is_fixed System = true
+is_fixed Input = true
+is_fixed Recorder = true
+is_fixed Over = true
+is_fixed NotBuilt = true
+is_fixed e = false

@@ -1,13 +1,13 @@
-ghost use Rattle.std.specs.Prelude.{◌≡◌, ◌++◌, IfOk, OnOk, string_bytes};
-ghost use Rattle.serde_json.specs.Data.{string as text_data};
-ghost use Rattle.serde_json.specs.Written.{compact_text};
-ghost use Rattle.es_lines.specs.Texts.{count_text, counts_text, refused_start, refused_end};
+ghost use Rattle.std.specs.Prelude.{◌≡◌, [], ◌∷◌, ◌++◌, IfOk, IfSome, OnOk, codes, is_some};
+ghost use Rattle.json.specs.Tree.{json_tokens, members_tokens};
+ghost use Rattle.serde_json.specs.Written.{outline, members_outline};
+ghost use Rattle.es_lines.specs.inner.Objects.{Adds};
 ghost use Rattle.es_lines.specs.Texts as spec;
 
+use crate::objects::{put_number, put_text};
 use es_model::{Bytes, Code, Counts, NoMemory, Text};
-use serde_json::Value;
+use json::Writer;
 use std::alloc::{AllocError, Global};
-use std::fmt::Write;
 
 /// How a run ends, as its end line tells it.
 #[derive(Debug, Drop)]
@@ -68,20 +68,44 @@ pub enum End {
 pub fn end_text(alloc: Global, end: &End) -> Result<Bytes, NoMemory>
     ensures { IfOk result (λ text. text ≡ spec.end_text end.now) }
 {
-    let text = end_string(alloc, end)?;
-    Ok(Bytes::from_vec(text.into_bytes()))
+    let mut out = Writer::new(Vec::with_capacity(alloc, 128)?);
+    write_end(&mut out, end)?;
+    Ok(Bytes::from_vec(out.into_inner()))
 }
 
-fn end_string(alloc: Global, end: &End) -> Result<String, AllocError>
-    ensures { IfOk result (λ text. string_bytes text ≡ spec.end_text end.now) }
+/// The end line, with its line feed, of an end that has no member but its word; it takes no memory.
+pub fn fixed_end_line(end: &End) -> Option<&'static [u8]>
+    ensures fixed { is_some result ≡ spec.is_fixed end.now }
+    ensures line { IfSome result (λ line. line.now ≡ spec.end_text end.now ++ 10 ∷ []) }
 {
     match end {
-        End::Ok { added, lines } => ok_string(alloc, added, *lines),
-        End::Full {
-            app,
-            last,
-            capacity,
-        } => full_string(alloc, app, *last, *capacity),
+        End::Ok { .. } => None,
+        End::Memory => Some(b"{\"end\":\"memory\"}\n"),
+        End::Usage => Some(b"{\"end\":\"usage\"}\n"),
+        End::Declaration { .. } => None,
+        End::System => Some(b"{\"end\":\"system\"}\n"),
+        End::Input => Some(b"{\"end\":\"input\"}\n"),
+        End::Recorder => Some(b"{\"end\":\"recorder\"}\n"),
+        End::Refused { .. } => None,
+        End::Turns { .. } => None,
+        End::Unreadable { .. } => None,
+        End::Full { .. } => None,
+        End::Over => Some(b"{\"end\":\"over\"}\n"),
+        End::NotBuilt => Some(b"{\"end\":\"not-built\"}\n"),
+    }
+}
+
+fn write_end(out: &mut Writer, end: &End) -> Result<(), AllocError>
+    ensures { OnOk result (Adds out.old out.new (json_tokens (outline (spec.end_tree end.now)))) }
+{
+    match end {
+        End::Ok { added, lines } => write_ok(out, added, *lines),
+        End::Memory => write_lone(out, "memory"),
+        End::Usage => write_lone(out, "usage"),
+        End::Declaration { code, path } => write_declaration(out, code, path),
+        End::System => write_lone(out, "system"),
+        End::Input => write_lone(out, "input"),
+        End::Recorder => write_lone(out, "recorder"),
         End::Refused {
             app,
             leader,
@@ -89,25 +113,47 @@ fn end_string(alloc: Global, end: &End) -> Result<String, AllocError>
             recordings,
             code,
             rule,
-        } => { refused_string(alloc, app, leader, *id, *recordings, code, *rule) }
-        End::Turns { app, turns } => turns_string(alloc, app, *turns),
-        End::Unreadable { app, id } => unreadable_string(alloc, app, *id),
-        End::Memory => String::from_str(alloc, "{\"end\":\"memory\"}"),
-        End::Usage => String::from_str(alloc, "{\"end\":\"usage\"}"),
-        End::Declaration { code, path } => declaration_string(alloc, code, path),
-        End::System => String::from_str(alloc, "{\"end\":\"system\"}"),
-        End::Input => String::from_str(alloc, "{\"end\":\"input\"}"),
-        End::Recorder => String::from_str(alloc, "{\"end\":\"recorder\"}"),
-        End::Over => String::from_str(alloc, "{\"end\":\"over\"}"),
-        End::NotBuilt => String::from_str(alloc, "{\"end\":\"not-built\"}"),
+        } => write_refused(out, app, leader, *id, *recordings, code, *rule),
+        End::Turns { app, turns } => write_turns(out, app, *turns),
+        End::Unreadable { app, id } => write_unreadable(out, app, *id),
+        End::Full {
+            app,
+            last,
+            capacity,
+        } => write_full(out, app, *last, *capacity),
+        End::Over => write_lone(out, "over"),
+        End::NotBuilt => write_lone(out, "not-built"),
     }
 }
 
-fn ok_string(alloc: Global, added: &Counts, lines: u64) -> Result<String, AllocError>
-    ensures { IfOk result (λ text. string_bytes text ≡ spec.end_text (End.Ok added.now lines)) }
+fn write_lone(out: &mut Writer, word: &str) -> Result<(), AllocError>
+    ensures { OnOk result (Adds out.old out.new (json_tokens (outline (spec.lone (codes "end") word.now)))) }
 {
-    let counts = counts_of(alloc, added.as_slice())?;
-    format!(in alloc; "{{\"added\":{{{counts}}},\"end\":\"ok\",\"lines\":{lines}}}")
+    out.begin_object()?;
+    put_text(out, "end", word)?;
+    out.end_object()
+}
+
+// The members of an object, and its end.
+fn write_counts(out: &mut Writer, counts: &[(Text, u64)]) -> Result<(), AllocError>
+    ensures { OnOk result (Adds out.old out.new (members_tokens (members_outline (spec.counts counts.now)))) }
+{
+    for count in counts {
+        put_number(out, count.0.as_str(), count.1)?;
+    }
+    out.end_object()
+}
+
+fn write_ok(out: &mut Writer, added: &Counts, lines: u64) -> Result<(), AllocError>
+    ensures { OnOk result (Adds out.old out.new (json_tokens (outline (spec.end_tree (End.Ok added.now lines))))) }
+{
+    out.begin_object()?;
+    out.key("added")?;
+    out.begin_object()?;
+    write_counts(out, added.as_slice())?;
+    put_text(out, "end", "ok")?;
+    put_number(out, "lines", lines)?;
+    out.end_object()
 }
 
 fn code_text(code: &Code) -> &'static str
@@ -128,111 +174,65 @@ fn code_text(code: &Code) -> &'static str
     }
 }
 
-// A text in quotes, with the shortest escapes.
-fn quoted_string(alloc: Global, text: &str) -> Result<String, AllocError>
-    ensures { IfOk result (λ s. string_bytes s ≡ compact_text (text_data text.now)) }
+fn write_declaration(out: &mut Writer, code: &Code, path: &Text) -> Result<(), AllocError>
+    ensures { OnOk result (Adds out.old out.new (json_tokens (outline (spec.end_tree (End.Declaration code.now path.now))))) }
 {
-    Value::String(String::from_str(alloc, text)?).to_string(alloc)
+    out.begin_object()?;
+    put_text(out, "code", code_text(code))?;
+    put_text(out, "end", "declaration")?;
+    put_text(out, "path", path.as_str())?;
+    out.end_object()
 }
 
-fn declaration_string(alloc: Global, code: &Code, path: &Text) -> Result<String, AllocError>
-    ensures { IfOk result (λ text. string_bytes text ≡ spec.end_text (End.Declaration code.now path.now)) }
-{
-    let code = code_text(code);
-    let path = quoted_string(alloc, path.as_str())?;
-    format!(in alloc; "{{\"code\":\"{code}\",\"end\":\"declaration\",\"path\":{path}}}")
-}
-
-fn full_string(alloc: Global, app: &Text, last: u64, capacity: u64) -> Result<String, AllocError>
-    ensures { IfOk result (λ text. string_bytes text ≡ spec.end_text (End.Full app.now last capacity)) }
-{
-    let app = app.as_str();
-    format!(in alloc;
-        "{{\"app\":\"{app}\",\"capacity\":{capacity},\"end\":\"full\",\"last\":{last}}}"
-    )
-}
-
-fn refused_string(
-    alloc: Global,
+fn write_refused(
+    out: &mut Writer,
     app: &Text,
     leader: &Text,
     id: u64,
     recordings: u64,
     code: &Text,
-    rule: u64,
-) -> Result<String, AllocError>
-    ensures { IfOk result (λ text. string_bytes text ≡ spec.end_text (End.Refused app.now leader.now id recordings code.now rule)) }
-{
-    let mut text = refused_start_string(alloc, app, code, id)?;
-    push_refused_end(&mut text, leader, recordings, rule)?;
-    Ok(text)
-}
-
-// The object up to the id.
-fn refused_start_string(
-    alloc: Global,
-    app: &Text,
-    code: &Text,
-    id: u64,
-) -> Result<String, AllocError>
-    ensures { IfOk result (λ text. string_bytes text ≡ refused_start app.now code.now id) }
-{
-    let app = app.as_str();
-    let code = code.as_str();
-    format!(in alloc; "{{\"app\":\"{app}\",\"code\":\"{code}\",\"end\":\"refused\",\"id\":{id}")
-}
-
-// Adds the other members, and the end of the object.
-fn push_refused_end(
-    text: &mut String,
-    leader: &Text,
-    recordings: u64,
     rule: u64,
 ) -> Result<(), AllocError>
-    ensures { OnOk result (string_bytes text.new ≡ string_bytes text.old ++ refused_end leader.now recordings rule) }
+    ensures { OnOk result (Adds out.old out.new (json_tokens (outline (spec.end_tree (End.Refused app.now leader.now id recordings code.now rule))))) }
 {
-    let leader = leader.as_str();
-    write!(
-        text,
-        ",\"leader\":\"{leader}\",\"recordings\":{recordings},\"rule\":{rule}}}"
-    )
+    out.begin_object()?;
+    put_text(out, "app", app.as_str())?;
+    put_text(out, "code", code.as_str())?;
+    put_text(out, "end", "refused")?;
+    put_number(out, "id", id)?;
+    put_text(out, "leader", leader.as_str())?;
+    put_number(out, "recordings", recordings)?;
+    put_number(out, "rule", rule)?;
+    out.end_object()
 }
 
-fn turns_string(alloc: Global, app: &Text, turns: u64) -> Result<String, AllocError>
-    ensures { IfOk result (λ text. string_bytes text ≡ spec.end_text (End.Turns app.now turns)) }
+fn write_turns(out: &mut Writer, app: &Text, turns: u64) -> Result<(), AllocError>
+    ensures { OnOk result (Adds out.old out.new (json_tokens (outline (spec.end_tree (End.Turns app.now turns))))) }
 {
-    let app = app.as_str();
-    format!(in alloc; "{{\"app\":\"{app}\",\"end\":\"turns\",\"turns\":{turns}}}")
+    out.begin_object()?;
+    put_text(out, "app", app.as_str())?;
+    put_text(out, "end", "turns")?;
+    put_number(out, "turns", turns)?;
+    out.end_object()
 }
 
-fn unreadable_string(alloc: Global, app: &Text, id: u64) -> Result<String, AllocError>
-    ensures { IfOk result (λ text. string_bytes text ≡ spec.end_text (End.Unreadable app.now id)) }
+fn write_unreadable(out: &mut Writer, app: &Text, id: u64) -> Result<(), AllocError>
+    ensures { OnOk result (Adds out.old out.new (json_tokens (outline (spec.end_tree (End.Unreadable app.now id))))) }
 {
-    let app = app.as_str();
-    format!(in alloc; "{{\"app\":\"{app}\",\"end\":\"unreadable\",\"id\":{id}}}")
+    out.begin_object()?;
+    put_text(out, "app", app.as_str())?;
+    put_text(out, "end", "unreadable")?;
+    put_number(out, "id", id)?;
+    out.end_object()
 }
 
-// Adds a member to a text.
-fn push_count(text: &mut String, count: &(Text, u64)) -> Result<(), AllocError>
-    ensures { OnOk result (string_bytes text.new ≡ string_bytes text.old ++ count_text count.now) }
+fn write_full(out: &mut Writer, app: &Text, last: u64, capacity: u64) -> Result<(), AllocError>
+    ensures { OnOk result (Adds out.old out.new (json_tokens (outline (spec.end_tree (End.Full app.now last capacity))))) }
 {
-    let name = count.0.as_str();
-    let number = count.1;
-    write!(text, "\"{name}\":{number}")
-}
-
-// The members of an object.
-fn counts_of(alloc: Global, counts: &[(Text, u64)]) -> Result<String, AllocError>
-    ensures { IfOk result (λ text. string_bytes text ≡ counts_text counts.now) }
-{
-    let mut text = String::new(alloc);
-    let Some((first, others)) = counts.split_first() else {
-        return Ok(text);
-    };
-    push_count(&mut text, first)?;
-    for count in others {
-        text.push(',')?;
-        push_count(&mut text, count)?;
-    }
-    Ok(text)
+    out.begin_object()?;
+    put_text(out, "app", app.as_str())?;
+    put_number(out, "capacity", capacity)?;
+    put_text(out, "end", "full")?;
+    put_number(out, "last", last)?;
+    out.end_object()
 }

@@ -1,22 +1,20 @@
 //! Lines read as requests, the canonical text of a command, and the texts of replies and of the end line.
 //!
 //! The definitions that contracts cite are in `specs/`: what a line asks of a system, which is a command of an
-//! application or the reason why it is none; the canonical text; and each reply and end as its text.
+//! application or the reason why it is none; the canonical text; and the tree of each reply and end, whose compact text it is.
 #![tactic(auto)]
 
 mod ends;
 mod fault;
+mod objects;
 mod reading;
 mod replies;
 mod request;
 mod writing;
 
-pub use ends::{End, end_text};
+pub use ends::{End, end_text, fixed_end_line};
 pub use fault::LineFault;
 pub use reading::read_line;
 pub use replies::{Reply, reply_text};
 pub use request::Request;
 pub use writing::command_text;
-
-#[cfg(test)]
-mod tests;

@@ -1,29 +1,29 @@
 ghost use Rattle.std.specs.Prelude.{◌≡◌, IfOk, option_map, codes};
 ghost use Rattle.std.specs.Option.{option_copied};
-ghost use Rattle.uuid.specs.Text.{parsed};
 ghost use Rattle.serde_json.specs.Find.{get};
-ghost use Rattle.serde_json.specs.Read.{read};
 ghost use Rattle.serde_json.specs.View.{view, members_view};
 ghost use Rattle.es_model.specs.Declaration.{app_named};
+ghost use Rattle.es_model.specs.Names.{is_one_of};
 ghost use Rattle.es_model.specs.Values.{Name};
 ghost use Rattle.es_domain.specs.Effect.{command_named};
 ghost use Rattle.es_transcode.specs.Decoded.{tree_in, record_in};
-ghost use Rattle.es_lines.specs.Requests.{Reads, Answers, Tests, IsOfSystem, request_in};
+ghost use Rattle.es_lines.specs.Requests.{Answers, IsOfSystem, request_in};
+ghost use Rattle.es_lines.specs.inner.Parts.{Reads, Tests};
 ghost use Rattle.es_lines.specs.Requests as spec;
+ghost use Rattle.es_lines.specs.inner.Parts as parts;
 ghost use Rattle.es_lines.specs.declared.fault.LineFault.TheVariants as faults;
 ghost use Rattle.es_lines.specs.declared.request.Request.TheVariants as requests;
 
 use crate::{LineFault, Request};
 use es_domain::Command;
-use es_model::{App, CommandDef, Fields, NoMemory, System, Text, are_of_kinds};
-use es_transcode::{DecodeFault, decode_tree};
+use es_model::limits::MOST_EXPECTED;
+use es_model::names::halves;
+use es_model::{App, CommandDef, Fields, System, Text, are_of_kinds};
+use es_transcode::{DecodeFault, decode_tree, id_of, read_tree};
 use serde_json::Value;
 use std::alloc::Global;
 use std::collections::BTreeMap;
 use uuid::Uuid;
-
-// The greatest version that may be expected.
-const MOST_VERSION: u64 = 1_099_511_627_776;
 
 fn is_member(name: &str) -> bool
     ensures { result ≡ spec.is_member name.now }
@@ -58,30 +58,10 @@ fn text_in<'a>(tree: &'a Value, name: &str) -> Option<&'a str>
     tree.get(name)?.as_str()
 }
 
-// What stands before the one point and after it.
-fn halves(text: &str) -> Option<(&str, &str)>
-    ensures { option_map (λ h. (h.0.now, h.1.now)) result ≡ spec.halves text.now }
-{
-    let (before, after) = text.split_once('.')?;
-    if after.as_bytes().contains(&b'.') {
-        return None;
-    }
-    Some((before, after))
-}
-
 fn names_in(tree: &Value) -> Option<(&str, &str)>
     ensures { option_map (λ h. (h.0.now, h.1.now)) result ≡ spec.names (view tree.now) }
 {
     halves(text_in(tree, "do")?)
-}
-
-fn id_of(text: &str) -> Option<Uuid>
-    ensures { result ≡ parsed text.now }
-{
-    match Uuid::parse_str(text) {
-        Ok(id) => Some(id),
-        Err(_) => None,
-    }
 }
 
 fn id_in(tree: &Value) -> Option<Uuid>
@@ -94,7 +74,7 @@ fn version_in(tree: &Value) -> Option<u64>
     ensures { result ≡ spec.version_in (view tree.now) }
 {
     let version = tree.as_u64()?;
-    if version <= MOST_VERSION {
+    if version <= MOST_EXPECTED {
         Some(version)
     } else {
         None
@@ -112,7 +92,7 @@ fn expected(tree: &Value) -> Option<Option<u64>>
 }
 
 fn fault_of(fault: DecodeFault) -> LineFault
-    ensures { result ≡ spec.fault_of fault }
+    ensures { result ≡ parts.fault_of fault }
 {
     match fault {
         DecodeFault::NoMemory => LineFault::NoMemory,
@@ -186,42 +166,17 @@ fn spelled(alloc: Global, tree: &Value) -> Result<(Text, Command), LineFault>
     }
 }
 
-fn read_tree(alloc: Global, text: &str) -> Result<Option<Value>, NoMemory>
-    ensures { IfOk result (λ o. option_map view o ≡ read text.now) }
-{
-    match Value::from_str(alloc, text) {
-        Ok(tree) => Ok(Some(tree)),
-        Err(error) => {
-            if error.is_memory() {
-                Err(NoMemory)
-            } else {
-                Ok(None)
-            }
-        }
-    }
-}
-
-// The tree of the bytes, if they are a text that has one.
-fn tree_in(alloc: Global, bytes: &[u8]) -> Result<Option<Value>, NoMemory>
-    ensures { IfOk result (λ o. option_map view o ≡ tree_in bytes.now) }
-{
-    match str::from_utf8(bytes) {
-        Ok(text) => read_tree(alloc, text),
-        Err(_) => Ok(None),
-    }
-}
-
 fn spelled_in(alloc: Global, bytes: &[u8]) -> Result<(Text, Command), LineFault>
     ensures { Reads (spec.and_then (tree_in bytes.now) spec.spelled) result }
 {
-    match tree_in(alloc, bytes)? {
+    match read_tree(alloc, bytes)? {
         Some(tree) => spelled(alloc, &tree),
         None => Err(LineFault::Syntax),
     }
 }
 
 fn has_class(app: &App, class: &str) -> bool
-    ensures { result ≡ spec.is_one_of app.now.classes class.now }
+    ensures { result ≡ is_one_of app.now.classes class.now }
 {
     app.classes
         .as_slice()

@@ -1,8 +1,13 @@
-ghost use Rattle.std.specs.Prelude.{◌≡◌, IfOk};
+ghost use Rattle.std.specs.Prelude.{◌≡◌, IfOk, OnOk, codes};
+ghost use Rattle.json.specs.Tree.{json_tokens};
+ghost use Rattle.serde_json.specs.Written.{outline};
+ghost use Rattle.es_lines.specs.inner.Objects.{Adds};
 ghost use Rattle.es_lines.specs.Texts as spec;
 
+use crate::objects::{put_number, put_text};
 use es_model::{Bytes, NoMemory, Text};
-use std::alloc::Global;
+use json::Writer;
+use std::alloc::{AllocError, Global};
 
 /// The reply to a line.
 #[derive(Debug, Drop)]
@@ -41,32 +46,81 @@ pub enum Reply {
 pub fn reply_text(alloc: Global, reply: &Reply) -> Result<Bytes, NoMemory>
     ensures { IfOk result (λ text. text ≡ spec.reply_text reply.now) }
 {
-    let text = match reply {
+    let mut out = Writer::new(Vec::with_capacity(alloc, 96)?);
+    write_reply(&mut out, reply)?;
+    Ok(Bytes::from_vec(out.into_inner()))
+}
+
+fn write_reply(out: &mut Writer, reply: &Reply) -> Result<(), AllocError>
+    ensures { OnOk result (Adds out.old out.new (json_tokens (outline (spec.reply_tree reply.now)))) }
+{
+    match reply {
         Reply::Accepted {
             recording,
             first,
             last,
             version,
-        } => {
-            format!(in alloc;
-                "{{\"first\":{first},\"last\":{last},\"ok\":\"do\",\"recording\":{recording},\"version\":{version}}}"
-            )?
-        }
-        Reply::Refused { code } => {
-            let code = code.as_str();
-            format!(in alloc; "{{\"code\":\"{code}\",\"error\":\"refused\"}}")?
-        }
-        Reply::Syntax => String::from_str(alloc, "{\"error\":\"syntax\"}")?,
-        Reply::Unknown => String::from_str(alloc, "{\"error\":\"unknown\"}")?,
-        Reply::Kind => String::from_str(alloc, "{\"error\":\"kind\"}")?,
-        Reply::Long => String::from_str(alloc, "{\"error\":\"long\"}")?,
-        Reply::Conflict { latest } => {
-            format!(in alloc; "{{\"error\":\"conflict\",\"latest\":{latest}}}")?
-        }
-        Reply::Unreadable { app, id } => {
-            let app = app.as_str();
-            format!(in alloc; "{{\"app\":\"{app}\",\"error\":\"unreadable\",\"id\":{id}}}")?
-        }
-    };
-    Ok(Bytes::from_vec(text.into_bytes()))
+        } => write_accepted(out, *recording, *first, *last, *version),
+        Reply::Refused { code } => write_refused(out, code),
+        Reply::Syntax => write_error(out, "syntax"),
+        Reply::Unknown => write_error(out, "unknown"),
+        Reply::Kind => write_error(out, "kind"),
+        Reply::Long => write_error(out, "long"),
+        Reply::Conflict { latest } => write_conflict(out, *latest),
+        Reply::Unreadable { app, id } => write_unreadable(out, app, *id),
+    }
+}
+
+fn write_accepted(
+    out: &mut Writer,
+    recording: u64,
+    first: u64,
+    last: u64,
+    version: u64,
+) -> Result<(), AllocError>
+    ensures { OnOk result (Adds out.old out.new (json_tokens (outline (spec.reply_tree (Reply.Accepted recording first last version))))) }
+{
+    out.begin_object()?;
+    put_number(out, "first", first)?;
+    put_number(out, "last", last)?;
+    put_text(out, "ok", "do")?;
+    put_number(out, "recording", recording)?;
+    put_number(out, "version", version)?;
+    out.end_object()
+}
+
+fn write_refused(out: &mut Writer, code: &Text) -> Result<(), AllocError>
+    ensures { OnOk result (Adds out.old out.new (json_tokens (outline (spec.reply_tree (Reply.Refused code.now))))) }
+{
+    out.begin_object()?;
+    put_text(out, "code", code.as_str())?;
+    put_text(out, "error", "refused")?;
+    out.end_object()
+}
+
+fn write_error(out: &mut Writer, word: &str) -> Result<(), AllocError>
+    ensures { OnOk result (Adds out.old out.new (json_tokens (outline (spec.lone (codes "error") word.now)))) }
+{
+    out.begin_object()?;
+    put_text(out, "error", word)?;
+    out.end_object()
+}
+
+fn write_conflict(out: &mut Writer, latest: u64) -> Result<(), AllocError>
+    ensures { OnOk result (Adds out.old out.new (json_tokens (outline (spec.reply_tree (Reply.Conflict latest))))) }
+{
+    out.begin_object()?;
+    put_text(out, "error", "conflict")?;
+    put_number(out, "latest", latest)?;
+    out.end_object()
+}
+
+fn write_unreadable(out: &mut Writer, app: &Text, id: u64) -> Result<(), AllocError>
+    ensures { OnOk result (Adds out.old out.new (json_tokens (outline (spec.reply_tree (Reply.Unreadable app.now id))))) }
+{
+    out.begin_object()?;
+    put_text(out, "app", app.as_str())?;
+    put_text(out, "error", "unreadable")?;
+    put_number(out, "id", id)?;
+    out.end_object()
 }

@@ -1,36 +1,26 @@
-ghost use Rattle.std.specs.Prelude.{◌≡◌, IfOk, OnOk, Some, string_bytes};
+ghost use Rattle.std.specs.Prelude.{◌≡◌, IfOk, OnOk, Some};
 ghost use Rattle.uuid.specs.Text.{simple_text, lower, parsed};
+ghost use Rattle.serde_json.specs.Data.{string};
 ghost use Rattle.serde_json.specs.View.{view, members_view};
 ghost use Rattle.es_model.specs.declared.declaration.System.{System};
-ghost use Rattle.es_model.specs.declared.value.Atom.TheVariants as atoms;
 ghost use Rattle.es_transcode.specs.CanonicalText.{record_tree};
 ghost use Rattle.es_transcode.specs.Decoded.{record_in};
-ghost use Rattle.es_transcode.specs.Texts.{HasText};
-ghost use Rattle.es_lines.specs.CommandText.{do_text, command_tree, CanBeAsked};
+ghost use Rattle.es_lines.specs.CommandText.{command_tree, CanBeAsked};
 ghost use Rattle.es_lines.specs.CommandText as spec;
+ghost use Rattle.es_lines.specs.inner.Parts as parts;
 ghost use Rattle.es_lines.specs.Requests.{request_in, asks};
 
 use es_domain::Command;
+use es_model::names::topic_of;
 use es_model::{Bytes, NoMemory, Text};
-use es_transcode::encode_tree;
+use es_transcode::{encode_tree, id_text};
 use serde_json::{Map, Value, put};
 use std::alloc::Global;
-use uuid::Uuid;
 
-fn do_text(alloc: Global, command: &Command) -> Result<String, NoMemory>
-    ensures { IfOk result (λ s. string_bytes s ≡ do_text command.now) }
+fn text_value(alloc: Global, text: &str) -> Result<Value, NoMemory>
+    ensures { IfOk result (λ v. view v ≡ string text.now) }
 {
-    let mut text = String::from_str(alloc, command.class.as_str())?;
-    text.push_str(".")?;
-    text.push_str(command.name.as_str())?;
-    Ok(text)
-}
-
-fn id_text(alloc: Global, id: &Uuid) -> Result<String, NoMemory>
-    ensures { IfOk result (λ s. HasText (atoms.Uuid id.now) (string_bytes s)) }
-{
-    let mut buffer = Uuid::encode_buffer();
-    Ok(String::from_str(alloc, id.simple().encode_lower(&mut buffer))?)
+    Ok(Value::String(String::from_str(alloc, text)?))
 }
 
 // Adds the version that is expected, if there is one.
@@ -39,7 +29,7 @@ fn put_expected(
     alloc: Global,
     expect: Option<u64>,
 ) -> Result<(), NoMemory>
-    ensures { OnOk result (members_view members.new.entries ≡ spec.put_expected expect (members_view members.old.entries)) }
+    ensures { OnOk result (members_view members.new.entries ≡ parts.put_expected expect (members_view members.old.entries)) }
 {
     if let Some(version) = expect {
         put(members, alloc, "expect", Value::from(version))?;
@@ -52,28 +42,15 @@ fn command_tree(alloc: Global, app: &Text, command: &Command) -> Result<Value, N
     ensures args { IfOk result (λ _. record_in (record_tree command.now.args) ≡ Some command.now.args) }
     ensures id { IfOk result (λ _. parsed (simple_text lower command.now.id) ≡ Some command.now.id) }
 {
+    let name = topic_of(alloc, command.class.as_str(), command.name.as_str())?;
+    let id = id_text(alloc, &command.id)?;
+    let args = encode_tree(alloc, &command.args)?;
     let mut members = Map::new(alloc);
-    let app = String::from_str(alloc, app.as_str())?;
-    put(&mut members, alloc, "app", Value::String(app))?;
-    put(
-        &mut members,
-        alloc,
-        "args",
-        encode_tree(alloc, &command.args)?,
-    )?;
-    put(
-        &mut members,
-        alloc,
-        "do",
-        Value::String(do_text(alloc, command)?),
-    )?;
+    put(&mut members, alloc, "app", text_value(alloc, app.as_str())?)?;
+    put(&mut members, alloc, "args", args)?;
+    put(&mut members, alloc, "do", text_value(alloc, name.as_str())?)?;
     put_expected(&mut members, alloc, command.expect)?;
-    put(
-        &mut members,
-        alloc,
-        "id",
-        Value::String(id_text(alloc, &command.id)?),
-    )?;
+    put(&mut members, alloc, "id", text_value(alloc, id.as_str())?)?;
     Ok(Value::Object(members))
 }
 

@@ -2,7 +2,7 @@ use Rattle.std.proofs.Common.{◌≡◌, Err, sym, subst}
 use Rattle.serde_json.specs.View.{view}
 use Rattle.es_transcode.specs.Decoded.{record_in}
 use Rattle.es_transcode.proofs.DecodedLemmas.{record-of-tree}
-use Rattle.es_lines.specs.Requests.{Reads}
+use Rattle.es_lines.specs.inner.Parts.{Reads}
 use Rattle.es_lines.proofs.RequestLemmas.{record-refused}
 use Rattle.es_lines.proofs.reading.record_of.Goals as goal
 
