@@ -2,7 +2,7 @@ ghost use Rattle.std.specs.Prelude.{◌≡◌, ◌<◌, ◌+◌, ◌∷◌, [], 
 ghost use Rattle.es_ties.specs.Seen.{log_count, AreFirstPens};
 
 use super::*;
-use crate::examples::{settle_two, tell};
+use crate::examples::{cross_three, settle_three, settle_two, tell_seven};
 use es_model::NoMemory;
 use std::alloc::Global;
 use std::test::Fail;
@@ -43,6 +43,48 @@ fn two_starts(alloc: Global) -> Result<Vec<Numbers>, Fail>
 {
     let one = numbers(alloc, &[1])?;
     Ok(Vec::from_array(alloc, [one, Numbers::new(alloc)])?)
+}
+
+#[test]
+fn learns_what_another_wrote(rt: HostRuntime) -> Result<(), Fail> {
+    let alloc = rt.alloc();
+    let starts = two_starts(alloc)?;
+    let seven = numbers(alloc, &[7])?;
+    let (ties, mut pens) = opened(alloc, starts.as_slice())?;
+    let mut second = last_pen(&ties, starts.as_slice(), &mut pens)?;
+    let mut first = last_pen(&ties, starts.as_slice(), &mut pens)?;
+    let reader = tell_seven(&ties, &mut first, &mut second, &seven);
+    assert_eq!(rt; [appends(&ties, 0), appends(&ties, 1)], [0, 1]);
+    settle_two(alloc, ties, first, second, reader)?;
+    Ok(())
+}
+
+#[test]
+fn notes_cross_between_three_logs(rt: HostRuntime) -> Result<(), Fail> {
+    let alloc = rt.alloc();
+    let entry = numbers(alloc, &[5, 6])?;
+    let empty = [
+        Numbers::new(alloc),
+        Numbers::new(alloc),
+        Numbers::new(alloc),
+    ];
+    let starts = Vec::from_array(alloc, empty)?;
+    let (ties, mut pens) = opened(alloc, starts.as_slice())?;
+    let mut third = last_pen(&ties, starts.as_slice(), &mut pens)?;
+    let mut second = last_pen(&ties, starts.as_slice(), &mut pens)?;
+    let mut first = last_pen(&ties, starts.as_slice(), &mut pens)?;
+    cross_three(&ties, &mut first, &mut second, &mut third, &entry);
+    assert_eq!(rt;
+        [appends(&ties, 0), appends(&ties, 1), appends(&ties, 2)],
+        [1, 2, 1]
+    );
+    cross_three(&ties, &mut first, &mut second, &mut third, &entry);
+    assert_eq!(rt;
+        [appends(&ties, 0), appends(&ties, 1), appends(&ties, 2)],
+        [2, 4, 2]
+    );
+    settle_three(alloc, ties, first, second, third)?;
+    Ok(())
 }
 
 // The pen appends some times, and makes a note after each.
@@ -95,10 +137,9 @@ fn two_threads_write_beside_each_other(rt: HostRuntime) -> Result<(), Fail> {
     let (ties, mut pens) = opened(alloc, starts.as_slice())?;
     let second = last_pen(&ties, starts.as_slice(), &mut pens)?;
     let first = last_pen(&ties, starts.as_slice(), &mut pens)?;
-    let (mut first, mut second) = write_beside(&rt, &ties, first, second, &entry);
+    let (mut first, second) = write_beside(&rt, &ties, first, second, &entry);
     assert_eq!(rt; [appends(&ties, 0), appends(&ties, 1)], [100, 100]);
-    let reader = tell(&ties, &mut first, &mut second, &entry);
-    assert_eq!(rt; [appends(&ties, 0), appends(&ties, 1)], [100, 101]);
+    let reader = first.reader(&ties);
     settle_two(alloc, ties, first, second, reader)?;
     Ok(())
 }
