@@ -1,5 +1,5 @@
 -- What an object may hold, where it doesn't tell, and the bytes that a reader of lines may have left.
-use Rattle.std.specs.Prelude.{◌≡◌, ℕ, Bool, IsTrue, List, [], ◌++◌, take, drop, Option, Some, None}
+use Rattle.std.specs.Prelude.{◌≡◌, ℕ, IsTrue, List, [], ◌++◌, take, drop, Option, Some, None}
 use Rattle.es_model.specs.Lines.{Line, lines_of, NoLineFeed}
 use Rattle.es_io.specs.declared.lines.Ahead.{Ahead}
 use Rattle.es_io.specs.declared.lines.Lines.{Lines}

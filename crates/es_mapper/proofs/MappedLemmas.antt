@@ -1,12 +1,11 @@
 -- The function gives the one domain event of a stored one.
-use Rattle.std.proofs.Common.{◌≡◌, ◌≢◌, ◌∙◌, ◌≤◌, ℤ, pos, negsuc, ℕ, zero, suc, Bool, true, false, not, ◌&&◌, IsTrue, List, Option, Some, None, Result, Ok, Err, nat_le, codes, if◌then◌else◌, refl, sym, ap, subst, arith}
+use Rattle.std.proofs.Common.{◌≡◌, ◌∙◌, ◌≤◌, ℤ, pos, negsuc, ℕ, Bool, true, false, not, ◌&&◌, IsTrue, List, Option, Some, None, Result, Ok, Err, nat_le, codes, if◌then◌else◌, refl, sym, ap, subst}
 use Rattle.std.specs.Str.{bytes_eq}
 use Rattle.std.proofs.lemmas.Bool.{leb-true, le-leb}
 use Rattle.std.proofs.lemmas.Slice.Eq.{bytes_eq-Decides}
 use Rattle.es_model.specs.Declaration.{is_created, event_named}
 use Rattle.es_model.specs.Rising.{item_of}
 use Rattle.es_model.specs.Values.{Name, Record, are_of_kinds}
-use Rattle.es_model.specs.declared.value.Atom.{Atom}
 use Rattle.es_model.specs.declared.value.Atom.TheVariants as atom
 use Rattle.es_model.specs.declared.value.Value.{Value}
 use Rattle.es_model.specs.declared.value.Value.TheVariants as value
@@ -17,7 +16,7 @@ use Rattle.es_model.specs.declared.domain_event.DomainEvent.{DomainEvent}
 use Rattle.es_model.specs.declared.event.StoredEvent.{StoredEvent}
 use Rattle.es_transcode.specs.Decoded.{record_of}
 use Rattle.es_transcode.proofs.DecodedLemmas.{record-of-decoded, decoded-of-record}
-use Rattle.es_mapper.specs.Mapping.{version_of, class_value, IsVersion, HasHead, fields_of, IsEvent, IsMapped}
+use Rattle.es_mapper.specs.Mapping.{version_of, class_value, IsVersion, fields_of, IsEvent, IsMapped}
 use Rattle.es_mapper.specs.Mapped.{at_least_one, version_in, moment_in, is_class_in, event_with, event_at, event_in_state, event_by, event_of, Gives}
 use Rattle.es_mapper.specs.declared.fault.MapFault.{MapFault}
 use Rattle.es_mapper.specs.declared.fault.MapFault.TheVariants as fault

@@ -1,5 +1,5 @@
 -- Names in rising byte order, each with an item.
-use Rattle.std.specs.Prelude.{Bool, true, not, IsTrue, List, [], ◌∷◌, ◌++◌, filter, find, Option, None, Some, option_map}
+use Rattle.std.specs.Prelude.{Bool, true, not, IsTrue, List, [], ◌∷◌, ◌++◌, filter, find, Option, option_map}
 use Rattle.std.specs.Ordering.{is_lt, nat_cmp}
 use Rattle.std.specs.Cmp.Lexicographic.{slice_cmp}
 use Rattle.std.specs.Str.{bytes_eq}

@@ -1,26 +1,24 @@
 -- What the functions read is what trees and texts say.
-use Rattle.std.proofs.Common.{◌≡◌, ◌≢◌, ◌∙◌, ◌^◌, ◌<◌, ℤ, pos, negsuc, ℕ, Bool, true, false, ◌&&◌, List, [], ◌∷◌, Option, Some, None, Result, Ok, Err, nat_lt, codes, if◌then◌else◌, refl, sym, ap, subst, arith, FitsSigned, w64}
+use Rattle.std.proofs.Common.{◌≡◌, ◌∙◌, ◌^◌, ◌<◌, ℤ, pos, negsuc, ℕ, Bool, true, false, ◌&&◌, List, [], ◌∷◌, Option, Some, None, Ok, nat_lt, codes, if◌then◌else◌, refl, sym, ap, subst, arith, FitsSigned, w64}
 use Rattle.std.specs.Option.{option_map, option_and_then}
 use Rattle.std.specs.Str.{bytes_eq, is_utf8}
-use Rattle.std.proofs.lemmas.Bool.{ltb-true, lt-ltb}
+use Rattle.std.proofs.lemmas.Bool.{ltb-true}
 use Rattle.std.proofs.lemmas.Slice.Eq.{bytes_eq-Decides}
 use Rattle.std.proofs.lemmas.Str.{IsUtf8-from_is_utf8, is_utf8-from_IsUtf8}
 use Rattle.serde_json.specs.Data.{Num, unsigned, negative, float, Data, null, boolean, number, string, array, object, Items, no_items, item, Members, no_members, member}
 use Rattle.serde_json.specs.Find.{of_integer}
 use Rattle.serde_json.specs.Read.{read}
 use Rattle.uuid.specs.Text.{simple_text, lower, parsed}
-use Rattle.es_model.specs.Scaled.{Scaled}
-use Rattle.es_model.specs.Values.{Id, Name, Record, IsValid}
+use Rattle.es_model.specs.Values.{Id, Name, Record}
 use Rattle.es_model.specs.declared.value.Atom.{Atom}
 use Rattle.es_model.specs.declared.value.Atom.TheVariants as atom
 use Rattle.es_model.specs.declared.value.Value.{Value}
 use Rattle.es_model.specs.declared.value.Value.TheVariants as value
 use Rattle.es_transcode.specs.declared.fault.DecodeFault.{DecodeFault}
 use Rattle.es_transcode.specs.Decoded.{int_in, id_at, id_in, atom_named, tagged_in, atom_in, with_first, atoms_in, value_in, members_in, record_in, tree_in, record_of}
-use Rattle.es_transcode.specs.Decoding.{pair, IsRecordFault, IsDecoded}
+use Rattle.es_transcode.specs.Decoding.{IsRecordFault, IsDecoded}
 use Rattle.es_transcode.specs.RecordText.{tagged, IsTagged, IsAtomTree, AreAtomTrees, IsValueTree, AreMembers, IsRecordTree, IsTreeOf}
 use Rattle.es_transcode.specs.Spelled.{moment_in, decimal_in}
-use Rattle.es_transcode.specs.Texts.{HasText}
 use Rattle.es_transcode.proofs.FaultLemmas.{no-record-fault}
 use Rattle.es_transcode.proofs.OnlyLemmas.{no-array}
 use Rattle.es_transcode.proofs.SpelledLemmas.{moment-spelled, moment-has, decimal-spelled, decimal-has}

@@ -1,5 +1,5 @@
 -- The moments and decimals that texts spell are those that have the texts.
-use Rattle.std.proofs.Common.{◌≡◌, ◌≤◌, ◌<◌, ◌≤ℤ◌, ◌+◌, ◌-◌, ◌*◌, ◌/◌, ◌%◌, ◌^◌, ◌==◌, ℕ, zero, suc, Bool, true, false, ◌&&◌, ℤ, pos, negsuc, List, [], ◌∷◌, ◌++◌, length, Option, None, Some, if◌then◌else◌, refl, sym, ap, subst, ◌∙◌, arith, take, drop, unsigned_abs, FitsSigned, w64, int_lt, IsTrue}
+use Rattle.std.proofs.Common.{◌≡◌, ◌≤◌, ◌<◌, ◌≤ℤ◌, ◌+◌, ◌-◌, ◌*◌, ◌/◌, ◌%◌, ◌^◌, ◌==◌, ℕ, zero, suc, Bool, true, false, ◌&&◌, ℤ, pos, negsuc, List, [], ◌∷◌, ◌++◌, length, None, Some, if◌then◌else◌, refl, sym, ap, ◌∙◌, arith, take, drop, unsigned_abs, FitsSigned, w64, int_lt}
 use Rattle.std.proofs.lemmas.Bool.{leb-true, le-leb, ltb-true, lt-ltb}
 use Rattle.std.proofs.lemmas.Bool.Decides.{Decides-eqb}
 use Rattle.std.proofs.lemmas.Int.{ints}
@@ -14,10 +14,9 @@ use Rattle.es_transcode.specs.Padded.{padded}
 use Rattle.es_transcode.specs.CivilText.{IsCivil, IsMomentText, micros_of, iso_text}
 use Rattle.es_transcode.specs.Texts.{decimal_text, point_of}
 use Rattle.es_transcode.specs.inner.Unsigned.{IsUnsigned}
-use Rattle.es_transcode.specs.Spelled.{number_from, number_in, civil_in, is_civil, is_moment, moment_at, moment_in, is_negative, unsigned, signed, whole_in, places_in, scaled_by, scaled_in, is_scaled, decimal_at, decimal_in}
-use Rattle.es_transcode.proofs.DigitsLemmas.{length-padded}
+use Rattle.es_transcode.specs.Spelled.{number_from, number_in, civil_in, is_civil, is_moment, moment_at, moment_in, is_negative, unsigned, signed, whole_in, places_in, scaled_in, is_scaled, decimal_at, decimal_in}
 use Rattle.es_transcode.proofs.CivilLemmas.{IsRead, year, month, day, hour, minute, second, micros}
-use Rattle.es_transcode.proofs.DecimalLemmas.{IsReadAs, read-as, scale-read, whole-read, quotient-small, unit-some, fits-small}
+use Rattle.es_transcode.proofs.DecimalLemmas.{read-as, scale-read, whole-read, quotient-small, unit-some, fits-small}
 
 from-append : (n : ℕ) (xs : List ℕ) (b : ℕ) → number_from n (xs ++ b ∷ []) ≡ number_from n xs * 10 + (b - 48)
 from-append n [] b = refl

@@ -1,6 +1,5 @@
-use Rattle.std.proofs.Common.{◌≡◌, ◌∙◌, Some, sym, ap, option_map}
+use Rattle.std.proofs.Common.{◌∙◌, sym, ap, option_map}
 use Rattle.serde_json.specs.View.{view}
-use Rattle.es_transcode.specs.Decoded.{tree_in}
 use Rattle.es_transcode.proofs.DecodedLemmas.{found-tree, no-tree}
 use Rattle.es_transcode.proofs.DecodingLemmas.{of-tree}
 use Rattle.es_transcode.proofs.FaultLemmas.{no-record}

@@ -1,4 +1,4 @@
-use Rattle.std.proofs.Common.{◌≡◌, [], ◌++◌, ℕ, List, Some, arith, refl, sym, subst}
+use Rattle.std.proofs.Common.{[], ℕ, List, Some, arith, refl, sym, subst}
 use Rattle.es_io.proofs.LinesLemmas.{Part-start, next_at_over, IsMore-ahead, IsMore}
 use Rattle.es_io.proofs.lines.Lines.next.Goals as goal
 

@@ -1,4 +1,4 @@
-use Rattle.std.proofs.Common.{◌≡◌, [], ◌∷◌, ◌++◌, ℕ, List, true, false, Some, IsTrue, arith, ◌∙◌, ap, refl, sym, subst, append_assoc, Ok}
+use Rattle.std.proofs.Common.{[], ◌∷◌, ◌++◌, ℕ, List, true, false, Some, arith, ◌∙◌, ap, refl, sym, subst, append_assoc, Ok}
 use Rattle.es_model.specs.Lines.{lines_of}
 use Rattle.es_io.specs.Ahead.{unread}
 use Rattle.es_io.specs.Remains.{FaultOf}
