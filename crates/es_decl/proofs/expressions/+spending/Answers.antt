@@ -17,3 +17,15 @@ spend_operands-returns-in-None t c =
     let vs = c.args.items.now in
     none-spent _ _ c.args.levels c.args.budget
     (ap (λ o. children o (item_depths vs)) c.in-One.is ∙ no-child 1 deeper c.in-One.field-0 vs c.in-None.ensures) (ap (λ o. children o (item_nodes vs)) c.in-One.is ∙ no-child 1 more c.in-One.field-0 vs c.in-None.ensures)
+
+pub spend_operands-returns-in-None-pair : goal.spend_operands-returns-in-None-pair
+spend_operands-returns-in-None-pair t c =
+    let vs = c.args.items.now in
+    none-spent _ _ c.args.levels c.args.budget
+    (ap (λ o. children o (item_depths vs)) c.in-Two.is ∙ no-children 1 deeper c.in-Two.field-0 vs c.in-None-pair.ensures) (ap (λ o. children o (item_nodes vs)) c.in-Two.is ∙ no-children 1 more c.in-Two.field-0 vs c.in-None-pair.ensures)
+
+pub spend_operands-returns-in-None-triple : goal.spend_operands-returns-in-None-triple
+spend_operands-returns-in-None-triple t c =
+    let vs = c.args.items.now in
+    none-spent _ _ c.args.levels c.args.budget
+    (ap (λ o. children o (item_depths vs)) c.in-Choice.is ∙ no-three 1 deeper vs c.in-None-triple.ensures) (ap (λ o. children o (item_nodes vs)) c.in-Choice.is ∙ no-three 1 more vs c.in-None-triple.ensures)
