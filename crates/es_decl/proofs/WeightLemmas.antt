@@ -21,13 +21,12 @@ use Rattle.es_model.specs.declared.operators.Unary.{Unary}
 use Rattle.es_model.specs.declared.operators.Unary.TheVariants as one
 use Rattle.es_model.specs.declared.value.AtomKind.{AtomKind}
 use Rattle.es_model.specs.OperatorWords.{operator_of, over_one, over_two}
-use Rattle.uuid.specs.Text.{parsed}
 use Rattle.es_transcode.specs.Spelled.{moment_in, decimal_in}
 use Rattle.es_expr.specs.Limits.{depth as expr_depth, nodes as expr_nodes, depth_step, nodes_step, literals_step, has_small_literals, is_expr_within}
 use Rattle.es_decl.specs.Kinds.{known, atom_kind}
 use Rattle.es_decl.specs.Paths.{member_step, item_step}
 use Rattle.es_decl.specs.Readings.{Reading, fine, here, and_then, under}
-use Rattle.es_decl.specs.Expressions.{bool_literal, int_literal, text_literal, uuid_literal, moment_literal, decimal_literal, empty_literal, get_literal, literal, only, operands, each, operand, operation, worded, spelled, spells, children, if_operator, counted, greatest, total, deeper, more, depth, nodes, size_test, expression}
+use Rattle.es_decl.specs.Expressions.{bool_literal, int_literal, text_literal, id_in, uuid_literal, moment_literal, decimal_literal, empty_literal, get_literal, literal, only, operands, each, operand, operation, worded, spelled, spells, children, if_operator, counted, greatest, total, deeper, more, depth, nodes, size_test, expression}
 use Rattle.es_decl.proofs.KeptLemmas.{Keeps, both, then-ok, under-ok, around-ok, if-ok}
 
 choose : {A : Type 0} (P : A → Type 0) (b : Bool) (x y : A) → P x → P y → P (if b then x else y)
@@ -77,7 +76,7 @@ module _ (P : Expr → Type 0) where
   gives-uuid all null e h = cc
   gives-uuid all (boolean b) e h = cc
   gives-uuid all (number n) e h = cc
-  gives-uuid all (string s) e h = gives-known Uuid all (parsed s) e h
+  gives-uuid all (string s) e h = gives-known Uuid all (id_in s) e h
   gives-uuid all (array ds) e h = cc
   gives-uuid all (object ms) e h = cc
 

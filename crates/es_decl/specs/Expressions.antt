@@ -30,8 +30,12 @@ abbrev pub text_literal : Data → Reading Expr
 text_literal (string s) = if nat_le (length s) MOST_TEXT_BYTES then Ok (Text s) else under (member_step (codes "text")) (here code.Limit)
 text_literal d = here code.Form
 
+-- the id that a text is read as
+unfoldable pub id_in : List ℕ → Option (List ℕ)
+id_in = parsed
+
 abbrev pub uuid_literal : Data → Reading Expr
-uuid_literal (string s) = known (option_map Uuid (parsed s))
+uuid_literal (string s) = known (option_map Uuid (id_in s))
 uuid_literal d = here code.Form
 
 abbrev pub moment_literal : Data → Reading Expr

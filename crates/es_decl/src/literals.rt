@@ -18,6 +18,7 @@ use es_model::{Atom, AtomKind, Code, Decimal, Expr, Moment, NoMemory, Text};
 use es_transcode::{DatetimeAsIso, DecimalAsStr, Transcoding, id_of};
 use serde_json::Value;
 use std::alloc::Global;
+use uuid::Uuid;
 
 fn bool_literal(alloc: Global, body: &Value) -> Result<Expr, DeclFault>
     ensures { Reads (spec.bool_literal (view body.now)) result }
@@ -61,11 +62,17 @@ fn text_literal(alloc: Global, body: &Value) -> Result<Expr, DeclFault>
     }
 }
 
+fn uuid_in(text: &str) -> Option<Uuid>
+    ensures { result ≡ spec.id_in text.now }
+{
+    id_of(text)
+}
+
 fn uuid_literal(alloc: Global, body: &Value) -> Result<Expr, DeclFault>
     ensures { Reads (spec.uuid_literal (view body.now)) result }
 {
     match body {
-        Value::String(text) => match id_of(text.as_str()) {
+        Value::String(text) => match uuid_in(text.as_str()) {
             Some(id) => Ok(Expr::Uuid(id)),
             None => here(alloc, Code::Form),
         },
