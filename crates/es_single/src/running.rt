@@ -1,9 +1,8 @@
-ghost use Rattle.std.specs.Prelude.{◌≡◌, ◌⊎◌, ◌≤◌, ℕ, [], List, Some, Ok, IfOk, IfErr, IsErrOf, OnOk, OnErr, length};
+ghost use Rattle.std.specs.Prelude.{◌≡◌, ◌⊎◌, ◌≤◌, [], List, Some, Ok, IfOk, IfErr, IsErrOf, OnOk, OnErr, length};
 ghost use Rattle.es_model.specs.declared.event.Recording.{Recording};
 ghost use Rattle.es_model.specs.Causes.{Rose};
 ghost use Rattle.es_model.specs.History.{Histories};
 ghost use Rattle.es_model.specs.Rising.{with_item};
-ghost use Rattle.es_io.specs.Readings.{Readings};
 ghost use Rattle.es_process.specs.Drains.{IsOnlyPair};
 ghost use Rattle.es_process.specs.Faults.{end_of};
 ghost use Rattle.es_process.specs.Standing.{Holds, HoldHistories, AllStay, SomeRose, names_in, AreDistinct, IsSame, MayFailToRead};
@@ -123,8 +122,10 @@ fn fault_end(fault: RunFault) -> End
     }
 }
 
-// The run, where the input and the readings may be untold.
-fn run_lines<S: Source, T: Sink, R: ProcessRecorder, C: Clock>(
+/// Runs a system over the lines of a source, over its opened applications, which hold nothing yet, and says how the
+/// run ends: all leaders are drained first, each line is answered before the next is read, and after an
+/// accepted one its followers process what it added. The end line isn't written. `Failed` is the sink's.
+pub fn run<S: Source, T: Sink, R: ProcessRecorder, C: Clock>(
     alloc: Global,
     sys: &System,
     pair: &Option<Pair>,
@@ -172,39 +173,4 @@ fn run_lines<S: Source, T: Sink, R: ProcessRecorder, C: Clock>(
         Stop::Read => Ok(End::Input),
         Stop::Sink => Err(Failed),
     }
-}
-
-/// Runs a system over the lines of a source, over its opened applications, which hold nothing yet, and says how the
-/// run ends: all leaders are drained first, each line is answered before the next is read, and after an
-/// accepted one its followers process what it added. The end line isn't written. `Failed` is the sink's.
-pub fn run<S: Source, T: Sink, R: ProcessRecorder, C: Clock>(
-    alloc: Global,
-    sys: &System,
-    pair: &Option<Pair>,
-    lines: &mut S,
-    out: &mut T,
-    apps: &mut [Application<R>],
-    clock: &mut C,
-) -> Result<End, Failed>
-    requires pair { IsOnlyPair sys.now (names_in apps.old) pair.now }
-    ensures traced { OfInput (S.left lines.old) (S.left lines.new) (C.readings clock.old) (λ i rest r. (openings : Histories) → AreEmpty (app_names sys.now) openings
-        → Holds R.history R.capacity openings limits apps.old (Some r) (state_of openings r)
-        → Runs (terms_of sys.now) openings r i (Some rest) (HoldHistories R.history openings apps.new) (T.written out.old) (T.written out.new) result) }
-
-    // The same where the input and the readings are told.
-    ensures runs { (i : List ℕ) (openings : Histories) (r : Readings) → S.left lines.old ≡ Some i → AreEmpty (app_names sys.now) openings
-        → Holds R.history R.capacity openings limits apps.old (C.readings clock.old) (state_of openings r)
-        → Runs (terms_of sys.now) openings r i (S.left lines.new) (HoldHistories R.history openings apps.new) (T.written out.old) (T.written out.new) result }
-    ensures running { IfOk result IsRunning }
-    ensures same { AllStay R.snapshots R.faults apps.old apps.new }
-    ensures out_later { T.faults out.old ≤ T.faults out.new }
-
-    // Unless memory ran out, at most one byte past the limit was taken from the lines.
-    ensures bound { (result ≡ Ok End.Memory) ⊎ TakesLines (S.left lines.old) (S.left lines.new) }
-
-    ensures input { result ≡ Ok End.Input → Rose (S.faults lines.old) (S.faults lines.new) }
-    ensures sink { OnErr result (Rose (T.faults out.old) (T.faults out.new)) }
-    ensures recorder { result ≡ Ok End.Recorder → SomeRose R.faults apps.old apps.new }
-{
-    run_lines(alloc, sys, pair, lines, out, apps, clock)
 }
