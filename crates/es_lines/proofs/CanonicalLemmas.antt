@@ -1,18 +1,18 @@
 -- The canonical text of what a line asks asks for the same.
-use Rattle.std.proofs.Common.{◌≡◌, ◌∙◌, ◌^◌, ◌<◌, ◌≤◌, ℕ, ℤ, pos, negsuc, Bool, true, false, nat_le, IsTrue, FitsSigned, w64, All, List, [], ◌∷◌, ◌++◌, codes, Option, Some, None, option_map, IsUtf8, if◌then◌else◌, refl, sym, ap, subst, arith, leb-true}
-use Rattle.std.proofs.lemmas.Str.{IsUtf8-from_is_utf8, IsUtf8-from_ascii}
+use Rattle.std.proofs.Common.{◌≡◌, ◌∙◌, ◌^◌, ◌<◌, ◌≤◌, ℕ, ℤ, pos, negsuc, Bool, true, false, IsTrue, FitsSigned, w64, List, [], ◌∷◌, ◌++◌, codes, Option, Some, None, option_map, IsUtf8, if◌then◌else◌, refl, sym, ap, subst, arith, leb-true}
+use Rattle.std.proofs.lemmas.Str.{IsUtf8-from_is_utf8}
 use Rattle.std.specs.Str.{is_utf8}
 use Rattle.std.specs.Ordering.{nat_cmp, match_ordering}
 use Rattle.std.specs.declared.cmp.Ordering.{Ordering}
 use Rattle.std.specs.declared.cmp.Ordering.TheVariants.{Less, Equal, Greater}
 use Rattle.std.specs.Cmp.Lexicographic.{slice_cmp}
 use Rattle.json.proofs.Printed.Utf8.{IsUtf8-are_ascii}
-use Rattle.uuid.specs.Text.{simple_text, lower, parsed}
-use Rattle.serde_json.specs.Data.{Num, unsigned, negative, float, Data, null, boolean, number, string, array, object, Items, no_items, item, Members, no_members, member}
+use Rattle.uuid.specs.Text.{parsed}
+use Rattle.serde_json.specs.Data.{Data, null, boolean, number, string, array, object, Items, no_items, item, Members, no_members, member}
 use Rattle.serde_json.specs.Find.{get, get_member, as_u64, of_integer}
-use Rattle.serde_json.specs.Read.{read, max_depth}
+use Rattle.serde_json.specs.Read.{read}
 use Rattle.es_model.specs.Names.{halves, topic_of}
-use Rattle.es_model.specs.Values.{Name, Id, Record, IsValid}
+use Rattle.es_model.specs.Values.{Name, Record}
 use Rattle.es_model.specs.declared.declaration.System.{System}
 use Rattle.es_model.specs.declared.value.Atom.{Atom}
 use Rattle.es_model.specs.declared.value.Atom.TheVariants as atom
@@ -25,13 +25,13 @@ use Rattle.es_transcode.specs.RecordText.{IsAtomTree, AreAtomTrees, IsValueTree,
 use Rattle.es_transcode.proofs.CanonicalLemmas.{only-record_tree}
 use Rattle.es_transcode.proofs.DecodedLemmas.{tree-of-record}
 use Rattle.es_domain.specs.declared.command.Command.{Command}
-use Rattle.es_lines.specs.CommandText.{with_expected, command_tree, command_text, is_absent_or_expectable}
-use Rattle.es_lines.specs.Requests.{Asked, asks, and_then, has_form, text_in, is_expectable, if_expectable, version_in, expected, text_of, names, id, args, target, command, members, spelled, request_in, IsDeclared}
+use Rattle.es_lines.specs.CommandText.{command_tree, command_text, is_absent_or_expectable}
+use Rattle.es_lines.specs.Requests.{asks, and_then, has_form, text_in, is_expectable, if_expectable, version_in, expected, text_of, names, id, args, target, command, members, spelled, request_in, IsDeclared}
 use Rattle.es_lines.proofs.IdLemmas.{parsed-again, utf8-simple}
 use Rattle.es_lines.proofs.PointLemmas.{halves-joined}
 use Rattle.es_lines.proofs.RequestLemmas.{asked-of}
 use Rattle.es_lines.proofs.TextLemmas.{IsWhole, HasWhole, ItemsHaveWhole, MembersHaveWhole, utf8-text, read-compact}
-use Rattle.es_lines.proofs.TokenLemmas.{IsFirst, IsSound, AreSound, HasSound, sound-read}
+use Rattle.es_lines.proofs.TokenLemmas.{IsSound, HasSound, sound-read}
 use Rattle.es_lines.proofs.TreeLemmas.{IsWritable, asked-by, flat-tree, tree_with}
 
 -- ---- parts that are there

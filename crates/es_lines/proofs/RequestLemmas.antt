@@ -1,5 +1,5 @@
 -- Laws of what is asked: it is declared, and what is declared is asked.
-use Rattle.std.proofs.Common.{◌≡◌, ◌∙◌, ℕ, suc, ◌<◌, nat_le, ◌&&◌, Bool, true, false, IsTrue, cond, List, [], ◌∷◌, ◌++◌, map, length, find, Option, Some, None, Result, Ok, Err, if◌then◌else◌, refl, sym, ap, subst, arith}
+use Rattle.std.proofs.Common.{◌≡◌, ◌∙◌, ℕ, suc, nat_le, ◌&&◌, Bool, true, false, IsTrue, cond, List, [], ◌∷◌, map, length, find, Option, Some, None, Result, Err, if◌then◌else◌, refl, sym, ap, subst, arith}
 use Rattle.std.proofs.lemmas.Slice.Eq.{bytes_eq-Decides}
 use Rattle.std.specs.List.{Contains, list_all}
 use Rattle.std.specs.Str.{bytes_eq}

@@ -1,5 +1,5 @@
 -- The texts in a tree that is read from UTF-8 are UTF-8, and its names rise.
-use Rattle.std.proofs.Common.{◌≡◌, ◌∙◌, ℕ, suc, ◌<◌, ◌==◌, Bool, true, false, cond, List, [], ◌∷◌, ◌++◌, Option, Some, None, option_map, option_and_then, IsTrue, IsUtf8, refl, sym, ap, subst, arith, append_assoc, append-nil, eqb-true}
+use Rattle.std.proofs.Common.{◌≡◌, ◌∙◌, ℕ, ◌<◌, ◌==◌, Bool, true, false, cond, List, [], ◌∷◌, ◌++◌, Option, Some, None, option_map, option_and_then, IsTrue, IsUtf8, refl, sym, ap, subst, arith, append_assoc, eqb-true}
 use Rattle.std.specs.Ordering.{nat_cmp, is_lt, ordering_reverse, match_ordering}
 use Rattle.std.specs.declared.cmp.Ordering.{Ordering}
 use Rattle.std.specs.declared.cmp.Ordering.TheVariants.{Less, Equal, Greater}
@@ -11,7 +11,7 @@ use Rattle.json.specs.Lex.{Lexeme, token, comma, colon, Class, quote, backslash,
 use Rattle.json.specs.Text.{plain, content}
 use Rattle.json.specs.Token.{Token, begin_object, end_object, begin_array, end_array, key, string, number, boolean, null, bad}
 use Rattle.json.specs.Tree.{json_tokens, items_tokens, members_tokens}
-use Rattle.json.specs.Word.{word, head, literal, number_before, after_number, ends_word, is_operator, is_space}
+use Rattle.json.specs.Word.{word, head, number_before, after_number, ends_word, is_operator, is_space}
 use Rattle.json.proofs.Unique.Spelling.{value-json_tokens_back}
 use Rattle.serde_json.specs.Data as tree
 use Rattle.serde_json.specs.Data.{Data, Items, no_items, item, Members, no_members, member, put}

@@ -1,9 +1,8 @@
 -- Laws of the tree of a command.
-use Rattle.std.proofs.Common.{rules, String, Global, string_bytes, ◌≡◌, ◌∙◌, ◌≤◌, ℕ, pos, negsuc, Bool, true, false, ◌||◌, IsTrue, List, [], ◌∷◌, codes, Option, Some, None, option_map, IsUtf8, if◌then◌else◌, refl, sym, ap, subst, arith}
+use Rattle.std.proofs.Common.{rules, String, Global, string_bytes, ◌≡◌, ◌∙◌, ◌≤◌, ℕ, pos, negsuc, Bool, false, IsTrue, List, [], ◌∷◌, codes, Option, Some, None, option_map, IsUtf8, if◌then◌else◌, refl, sym, ap, subst, arith}
 use Rattle.std.proofs.lemmas.Str.{is_utf8-from_IsUtf8}
-use Rattle.std.specs.Str.{is_utf8}
 use Rattle.uuid.specs.Text.{simple_text, lower, parsed}
-use Rattle.serde_json.specs.Data.{Data, string, object, Items, no_items, item, Members, no_members, member, put, depth, items_depth, members_depth}
+use Rattle.serde_json.specs.Data.{Data, string, object, Members, no_members, member, put, depth, items_depth, members_depth}
 use Rattle.serde_json.specs.Read.{read, max_depth}
 use Rattle.serde_json.specs.View.{view}
 use Rattle.serde_json.specs.declared.value.Value.{the_lemmas, String as TextTree}
@@ -23,7 +22,7 @@ use Rattle.es_transcode.proofs.DecodedLemmas.{record-of-tree}
 use Rattle.es_domain.specs.declared.command.Command.{Command}
 use Rattle.es_lines.specs.CommandText.{command_tree, with_expected, is_absent_or_expectable}
 use Rattle.es_lines.specs.inner.Parts.{put_expected}
-use Rattle.es_lines.specs.Requests.{and_then, expected, if_expectable, is_expectable, spelled, asks, asked_of, request_in, IsDeclared}
+use Rattle.es_lines.specs.Requests.{and_then, if_expectable, is_expectable, spelled, asks, asked_of, request_in, IsDeclared}
 use Rattle.es_lines.proofs.RequestLemmas.{asks-fitting}
 
 -- ---- it is read as the command

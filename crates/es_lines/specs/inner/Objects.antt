@@ -1,5 +1,5 @@
 -- What is written of an object.
-use Rattle.std.specs.Prelude.{ℕ, ◌≡◌, List, [], ◌∷◌, ◌++◌}
+use Rattle.std.specs.Prelude.{◌≡◌, List, ◌++◌}
 use Rattle.json.specs.Token.{Token}
 use Rattle.json.specs.Written.{Written}
 

@@ -1,4 +1,4 @@
-use Rattle.std.proofs.Common.{◌∙◌, ap, []}
+use Rattle.std.proofs.Common.{◌∙◌, ap}
 use Rattle.serde_json.specs.View.{view}
 use Rattle.es_decl.specs.Expressions.{depth, nodes, deeper, more, children}
 use Rattle.es_decl.specs.inner.Operands.{item_depths, item_nodes}

@@ -1,4 +1,4 @@
-use Rattle.std.proofs.Common.{◌≡◌, ◌++◌, ◌∷◌, [], ap, sym, subst, IfSome}
+use Rattle.std.proofs.Common.{◌++◌, ◌∷◌, [], ap, sym}
 use Rattle.json.specs.Print.{escape_byte}
 use Rattle.es_lines.specs.Texts.{end_text}
 use Rattle.es_lines.proofs.ends.fixed_end_line.Goals as goal

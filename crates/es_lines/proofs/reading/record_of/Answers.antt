@@ -1,4 +1,4 @@
-use Rattle.std.proofs.Common.{◌≡◌, Err, sym, subst}
+use Rattle.std.proofs.Common.{Err, sym, subst}
 use Rattle.serde_json.specs.View.{view}
 use Rattle.es_transcode.specs.Decoded.{record_in}
 use Rattle.es_transcode.proofs.DecodedLemmas.{record-of-tree}

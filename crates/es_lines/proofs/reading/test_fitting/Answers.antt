@@ -1,4 +1,4 @@
-use Rattle.std.proofs.Common.{◌≡◌, ◌∙◌, sym}
+use Rattle.std.proofs.Common.{◌∙◌, sym}
 use Rattle.es_lines.proofs.RequestLemmas.{tests-listed}
 use Rattle.es_lines.proofs.reading.test_fitting.Goals as goal
 
