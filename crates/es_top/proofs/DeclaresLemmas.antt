@@ -1,5 +1,5 @@
 -- What is declared by the words, and what loading it leaves.
-use Rattle.std.proofs.Common.{◌≡◌, inl, inr, ◌∙◌, sym, IsSome, ℕ, Bool, true, false, List, codes, if◌then◌else◌, Option, Some, None, option_map, Ok, Err, refl, subst}
+use Rattle.std.proofs.Common.{◌≡◌, ◌⊎◌, inl, inr, ◌∙◌, sym, IsSome, ℕ, Bool, true, false, List, codes, if◌then◌else◌, Option, Some, None, option_map, Ok, Err, refl, ap, subst}
 use Rattle.std.specs.declared.alloc.Global.{Global}
 use Rattle.std.specs.Prelude.{String}
 use Rattle.std.specs.Str.{bytes_eq}
@@ -14,18 +14,17 @@ use Rattle.es_decl.specs.Declaration.{declared}
 use Rattle.es_decl.specs.Readings.{Reading}
 use Rattle.es_decl.specs.declared.builtin.TheConstants.{SAMPLE}
 use Rattle.es_decl.proofs.CheckedLemmas.{declared-checked}
-use Rattle.es_lines.specs.declared.ends.End.{End}
 use Rattle.es_lines.specs.declared.ends.End.TheVariants as end
 use Rattle.es_top.specs.declared.loading.LoadFault.{LoadFault}
 use Rattle.es_top.specs.declared.loading.LoadFault.TheVariants.{Declaration, Failed, NoMemory}
 use Rattle.es_top.specs.declared.status.Status.{Status}
 use Rattle.es_top.specs.declared.status.Status.TheVariants as status
 use Rattle.es_top.specs.Declares.{IsNotAsked, declares, declares_for, document_declares, name_declares}
-use Rattle.es_top.specs.Ends.{IsEarlyEnd, end_of_load, status_of}
+use Rattle.es_top.specs.Ends.{Sort, itself, stopped, unbuilt, unbegun, ended, end_of_load, sort_of, Writes}
 use Rattle.es_top.specs.Loads.{Loads}
-use Rattle.es_top.specs.Top.{OfRun}
+use Rattle.es_top.specs.Top.{Ran}
 use Rattle.es_top.specs.Words.{system_in}
-use Rattle.es_top.proofs.EndLemmas.{Ends, Told, Tops, of_run, which_end, tops_system, tops_memory}
+use Rattle.es_top.proofs.EndLemmas.{ran_starved, ran_unread, told_as, writes_so}
 
 -- what is declared is checked
 reading_checked : (bytes : List ℕ) (sys : System) → Some (declared bytes) ≡ Some (Ok sys) → IsCheckedSystem sys
@@ -47,33 +46,20 @@ name_checked : (docs : Option NamedDocuments) (name : Name) (sys : System) → n
 name_checked docs name sys is = either_checked (bytes_eq name (codes "sample")) SAMPLE.now docs name sys is
 
 -- the same code and the same place
-fault_same : (c code : Code) (p path : List ℕ) (d : Reading System) → status.Declaration c p ≡ status.Declaration code path → d ≡ Err (c, p) → d ≡ Err (code, path)
+fault_same : (c code : Code) (p path : List ℕ) (d : Reading System) → end.Declaration c p ≡ end.Declaration code path → d ≡ Err (c, p) → d ≡ Err (code, path)
 fault_same c code p path d same is =
     let first : c ≡ code = cc same in
     let second : p ≡ path = cc same in
     subst (λ x. d ≡ Err (x, path)) first (subst (λ y. d ≡ Err (c, y)) second is)
 
--- a run that wasn't loaded has an early end, and no other
-pub load_early : (fault : LoadFault) → IsEarlyEnd (end_of_load fault)
-load_early (Declaration code path) = tt
-load_early Failed = tt
-load_early NoMemory = tt
-
-pub load_own : (P : End → Type 0) (fault : LoadFault) (s : Status) → Ends (end_of_load fault) s → OfRun s P
-load_own P fault s ends = of_run P (end_of_load fault) s (of_fault fault) ends
-  where
-    of_fault : (f : LoadFault) → OfRun (status_of (end_of_load f)) P
-    of_fault (Declaration code path) = tt
-    of_fault Failed = tt
-    of_fault NoMemory = tt
-
-pub load_not_built : {P : Type 0} (fault : LoadFault) (s : Status) → Ends (end_of_load fault) s → s ≡ status.NotBuilt → P
-load_not_built {P = P} fault s ends is = of_fault fault (which_end (end_of_load fault) s ends is)
-  where
-    of_fault : (f : LoadFault) → end_of_load f ≡ end.NotBuilt → P
-    of_fault (Declaration code path) same = absurd (cc same)
-    of_fault Failed same = absurd (cc same)
-    of_fault NoMemory same = absurd (cc same)
+-- a run that couldn't be loaded didn't come to an end of its own, and wasn't one that isn't made
+pub load_sort : {P : Type 0} (fault : LoadFault) (k : Sort) → sort_of (end_of_load fault) ≡ k → (k ≡ itself) ⊎ (k ≡ unbuilt) → P
+load_sort (Declaration code path) k is (inl same) = let clash : unbegun ≡ itself = is ∙ same in absurd (cc clash)
+load_sort (Declaration code path) k is (inr same) = let clash : unbegun ≡ unbuilt = is ∙ same in absurd (cc clash)
+load_sort Failed k is (inl same) = let clash : unbegun ≡ itself = is ∙ same in absurd (cc clash)
+load_sort Failed k is (inr same) = let clash : unbegun ≡ unbuilt = is ∙ same in absurd (cc clash)
+load_sort NoMemory k is (inl same) = let clash : stopped ≡ itself = is ∙ same in absurd (cc clash)
+load_sort NoMemory k is (inr same) = let clash : stopped ≡ unbuilt = is ∙ same in absurd (cc clash)
 
 none_there : (o : Option (Reading System)) → o ≡ None → IsSome o → ⊥
 none_there None is there = let clash : false ≡ true = there in absurd (cc clash)
@@ -88,12 +74,12 @@ module _ (docs : Option NamedDocuments) (words : List (String Global)) (name : N
   loaded_same mine sys loads is = let same : Ok sys ≡ Ok mine = loads.is (Ok sys) (named (Some (Ok sys)) is) in cc same
 
   -- the system couldn't be loaded, though the words ask for one: nothing was done
-  pub fault_tops : (L S D : Type 0) (fault : LoadFault) → (fault ≡ Failed → D) → Loads docs name (Err fault) → (sys : System) → declares docs words ≡ Some (Ok sys) → (i : List ℕ) (r : Readings) (h : Histories) (unread : Option (List ℕ)) (new : Option Histories) (u w : Option (List ℕ)) (s : Status)
-      → Told (end_of_load fault) s u w → new ≡ Some h → Tops L S D sys i r h unread new u w s
-  fault_tops L S D (Declaration code path) failed loads sys is i r h unread new u w s told same =
+  pub fault_ran : (L S D : Type 0) (fault : LoadFault) → (fault ≡ Failed → D) → Loads docs name (Err fault) → (sys : System) → declares docs words ≡ Some (Ok sys) → (i : List ℕ) (unread : List ℕ) (r : Readings) (h : Histories) (new : Option Histories) (u w : Option (List ℕ)) (s : Status)
+      → Writes (end_of_load fault) u w (ended s) → new ≡ Some h → Ran L S D sys i unread r h new u w s
+  fault_ran L S D (Declaration code path) failed loads sys is i unread r h new u w s writes same =
       let clash : Ok sys ≡ Err (code, path) = loads.is (Ok sys) (named (Some (Ok sys)) is) in absurd (cc clash)
-  fault_tops L S D Failed failed loads sys is i r h unread new u w s told same = tops_system L S D (failed refl) sys (name_checked docs name sys (named (Some (Ok sys)) is)) i r h unread new u w s told same
-  fault_tops L S D NoMemory failed loads sys is i r h unread new u w s told same = tops_memory L S D sys (name_checked docs name sys (named (Some (Ok sys)) is)) i r h unread new u w s told same
+  fault_ran L S D Failed failed loads sys is i unread r h new u w s writes same = ran_unread L S D (failed refl) sys (name_checked docs name sys (named (Some (Ok sys)) is)) i unread r h new u w s same writes
+  fault_ran L S D NoMemory failed loads sys is i unread r h new u w s writes same = ran_starved L S D sys (name_checked docs name sys (named (Some (Ok sys)) is)) i unread r h new u w s same writes
 
   -- a system was loaded, so the words ask for one
   pub asked : {P : Type 0} (mine : System) → Loads docs name (Ok mine) → IsNotAsked docs words → P
@@ -102,15 +88,12 @@ module _ (docs : Option NamedDocuments) (words : List (String Global)) (name : N
   asked mine loads (inr (inr missing)) = absurd (none_there (name_declares docs name) (named None missing.1) (loads.there missing.0))
 
   -- the status of a refused document tells what the words ask for
-  pub refused_so : (fault : LoadFault) → Loads docs name (Err fault) → (s : Status) → Ends (end_of_load fault) s → (d : Reading System) (code : Code) (path : List ℕ) → declares docs words ≡ Some d → s ≡ status.Declaration code path → d ≡ Err (code, path)
-  refused_so fault loads s ends d code path asks told = by_ends ends
+  pub refused_so : (fault : LoadFault) → Loads docs name (Err fault) → (u w : Option (List ℕ)) (s : Status) → Writes (end_of_load fault) u w (ended s) → (d : Reading System) (code : Code) (path : List ℕ) → declares docs words ≡ Some d → s ≡ status.Declaration code path → d ≡ Err (code, path)
+  refused_so fault loads u w s writes d code path asks told =
+      let one : end.Declaration code path ≡ end_of_load fault = told_as (end_of_load fault) (end.Declaration code path) (writes_so (end_of_load fault) s u w writes (end.Declaration code path) (ap ended told)).0 (λ is. absurd (cc is)) in
+      of_fault fault loads (sym one)
     where
-      of_fault : (f : LoadFault) → Loads docs name (Err f) → status_of (end_of_load f) ≡ status.Declaration code path → d ≡ Err (code, path)
+      of_fault : (f : LoadFault) → Loads docs name (Err f) → end_of_load f ≡ end.Declaration code path → d ≡ Err (code, path)
       of_fault (Declaration c p) so same = fault_same c code p path d same (so.is d (named (Some d) asks))
       of_fault Failed so same = absurd (cc same)
       of_fault NoMemory so same = absurd (cc same)
-
-      by_ends : Ends (end_of_load fault) s → d ≡ Err (code, path)
-      by_ends (inl is) = of_fault fault loads (sym is ∙ told)
-      by_ends (inr (inl is)) = let clash : status.Sink ≡ status.Declaration code path = sym is ∙ told in absurd (cc clash)
-      by_ends (inr (inr is)) = let clash : status.Memory ≡ status.Declaration code path = sym is ∙ told in absurd (cc clash)

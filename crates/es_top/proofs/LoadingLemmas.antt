@@ -1,5 +1,5 @@
 -- What was read of a document, and what it declares.
-use Rattle.std.proofs.Common.{◌≡◌, ◌⊎◌, ◌≤◌, ◌+◌, ◌-◌, ℕ, true, false, inl, inr, List, [], ◌++◌, length, codes, Option, Some, None, IsSome, IfOk, option_map, Result, Ok, Err, if◌then◌else◌, refl, sym, ap, ◌∙◌, subst, append_assoc, append-nil, arith, length-append}
+use Rattle.std.proofs.Common.{◌≡◌, ◌⊎◌, ◌≤◌, ◌+◌, ◌-◌, ℕ, false, inl, inr, List, [], ◌++◌, length, codes, Option, Some, None, IsSome, IfOk, option_map, Result, Ok, Err, if◌then◌else◌, refl, sym, ap, ◌∙◌, subst, append_assoc, append-nil, arith, length-append}
 use Rattle.std.specs.Io.KnownBytes.{Consumes, IsAtEnd}
 use Rattle.std.specs.Str.{bytes_eq}
 use Rattle.std.proofs.lemmas.Bool.Decides.{Decides-ltb}
@@ -9,7 +9,7 @@ use Rattle.es_model.specs.declared.memory.CallFault.{CallFault}
 use Rattle.es_model.specs.Values.{Name}
 use Rattle.es_io.specs.Next.{TakesAtMost}
 use Rattle.es_io.specs.Documents.{NamedDocuments, Begins}
-use Rattle.es_decl.specs.Declaration.{declared, of_tree, tree_in}
+use Rattle.es_decl.specs.Declaration.{declared, of_bytes}
 use Rattle.es_decl.specs.Readings.{Reading, here}
 use Rattle.es_decl.specs.declared.builtin.TheConstants.{SAMPLE}
 use Rattle.es_top.specs.declared.loading.LoadFault.{LoadFault}
@@ -48,7 +48,7 @@ document_read (Some documents) name left new x read begins so =
 
 -- too many bytes declare the same, whatever they are
 long_declares : (bytes : List ℕ) → IsTooLong bytes → declared bytes ≡ here code.Long
-long_declares bytes long = λ i. if (Decides-ltb 1048576 (length bytes)).1 long i then here code.Long else of_tree (tree_in bytes)
+long_declares bytes long = λ i. if (Decides-ltb 1048576 (length bytes)).1 long i then here code.Long else of_bytes bytes
 
 -- what a document that was read so declares
 read_declares : (document : Option (List ℕ)) (read : List ℕ) → IsReadOf document read → (bytes : List ℕ) × (document ≡ Some bytes) × (declared bytes ≡ declared read)
@@ -88,14 +88,8 @@ loads_by documents name read (Err (Declaration reason path)) declares gives = de
 loads_by documents name read (Err Failed) declares gives = tt
 loads_by documents name read (Err NoMemory) declares gives = tt
 
-is_sample : (documents : Option NamedDocuments) (name : Name) → bytes_eq name (codes "sample") ≡ true → name_declares documents name ≡ Some (declared SAMPLE.now)
-is_sample documents name same = λ i. if same i then Some (declared SAMPLE.now) else document_declares documents name
-
 is_other : (documents : Option NamedDocuments) (name : Name) → bytes_eq name (codes "sample") ≡ false → name_declares documents name ≡ document_declares documents name
 is_other documents name differ = λ i. if differ i then Some (declared SAMPLE.now) else document_declares documents name
-
-pub sample_loads : (documents : Option NamedDocuments) (name : Name) (result : Result System LoadFault) → bytes_eq name (codes "sample") ≡ true → Gives (declared SAMPLE.now) result → Loads documents name result
-sample_loads documents name result same = loads_by documents name (declared SAMPLE.now) result (λ reading is. declares_known documents name (declared SAMPLE.now) reading (is_sample documents name same) is)
 
 read_loads : (documents : Option NamedDocuments) (name : Name) (read : List ℕ) (result : Result System LoadFault) → bytes_eq name (codes "sample") ≡ false → IsDocument documents name read → Gives (declared read) result
     → Loads documents name result

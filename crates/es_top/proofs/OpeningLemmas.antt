@@ -16,13 +16,13 @@ use Rattle.es_recorder.specs.Held.{put, SameElsewhere, ClosesTold, Closes}
 use Rattle.es_process.specs.declared.application.Application.{Application}
 use Rattle.es_process.specs.Answer.{Options}
 use Rattle.es_process.specs.SingleThread.{is_among}
-use Rattle.es_process.specs.Standing.{State, HoldsOne, Holds, HoldHistories, AreDistinct, IsSame, names_in, faults_at, count_of, Later}
+use Rattle.es_process.specs.Standing.{State, HoldsOne, Holds, HoldHistories, AreDistinct, IsSame, names_in, faults_at, count_of}
 use Rattle.es_process.proofs.AmongLemmas.{among-contains, contains-among, contains-last, is-same, same-name, put-cases, put-here, put-other, same-or-not}
-use Rattle.es_process.proofs.HoldsLemmas.{contains-at, name-at, same-one, later-then, later-set}
+use Rattle.es_process.proofs.HoldsLemmas.{all-none, contains-at, name-at, same-one, later-then, later-set, snapshots-kept}
 use Rattle.es_process.proofs.SetLemmas.{get-cases, map-set}
 use Rattle.es_single.specs.Limits.{limits}
 use Rattle.es_single.specs.Runs.{state_of, AreEmpty}
-use Rattle.es_top.specs.Opened.{marked, HoldElsewhere, TellEach, AreHandedOut, AreFresh, SomeFailed, IsOpened, AreOpened, IsFrontOfNames, IsOccupied}
+use Rattle.es_top.specs.Opened.{marked, HoldElsewhere, TellEach, AreHandedOut, AreFresh, AreKept, SomeFailed, IsOpened, AreOpened, IsFrontOfNames, IsOccupied}
 use Rattle.es_top.specs.Top.{IsLeft}
 
 -- names
@@ -300,16 +300,13 @@ module _ {R : Type 0} (history : R → Option (List Recording)) (snapshots : R �
         → ((n : Name) → is_among n (names_in all) ≡ false → q n ≡ base n) → kept_now ≡ Some q
     closed_keeps = leave_all snapshots all left out kept kept_now (nil_of left none) x.keeps
 
-module _ {R : Type 0} (history : R → Option (List Recording)) (capacity faults : R → ℕ) where
-  -- the applications hold what they held
-  pub record AreKept (old new : List (Application R)) : Type 0 where
-    pub holds : (base : Histories) (options : Options) (readings : Option Readings) (s : State) → Holds history capacity base options old readings s → Holds history capacity base options new readings s
-    pub names : names_in new ≡ names_in old
-    pub later : Later faults old new
+module _ {R : Type 0} (history : R → Option (List Recording)) (capacity : R → ℕ) (snapshots : R → Option (List Snapshot)) (faults : R → ℕ) where
+  pub kept_none : (apps : List (Application R)) → AreKept history capacity snapshots faults apps apps
+  kept_none apps = record { holds = λ base options readings s held. held; stay = all-none snapshots faults apps }
 
-  pub kept_more : (old mid : List (Application R)) (i : ℕ) (a b : Application R) → AreKept old mid → slice_get mid i ≡ Some a → IsSame history capacity a b → faults a.recorder ≤ faults b.recorder → AreKept old (slice_set mid i b)
-  kept_more old mid i a b x at same less =
-      let kept : names_in (slice_set mid i b) ≡ names_in mid = map-set (λ (c : Application R). c.name) mid i b a at same.name in
+  pub kept_more : (old mid : List (Application R)) (i : ℕ) (a b : Application R) → AreKept history capacity snapshots faults old mid → slice_get mid i ≡ Some a → IsSame history capacity snapshots faults a b → AreKept history capacity snapshots faults old (slice_set mid i b)
+  kept_more old mid i a b x at same =
+      let kept : names_in (slice_set mid i b) ≡ names_in mid = map-set (λ (c : Application R). c.name) mid i b a at same.stays.name in
       record {
         holds = λ base options readings s first.
             let held = x.holds base options readings s first in
@@ -318,18 +315,24 @@ module _ {R : Type 0} (history : R → Option (List Recording)) (capacity faults
               clock = held.clock;
               elsewhere = λ n none. held.elsewhere n (ap (is_among n) (sym kept) ∙ none);
             };
-        names = kept ∙ x.names;
-        later = later-then faults old mid (slice_set mid i b) x.later (later-set faults mid i a b at less);
+        stay = record {
+          names = kept ∙ x.stay.names;
+          kept = snapshots-kept snapshots mid i a b at same.stays.kept ∙ x.stay.kept;
+          later = later-then faults old mid (slice_set mid i b) x.stay.later (later-set faults mid i a b at same.stays.later);
+        };
       }
 
   -- what one of them holds
-  pub holds_at : (base : Histories) (options : Options) (readings : Option Readings) (s : State) (old mid : List (Application R)) (i : ℕ) (a : Application R) → AreKept old mid → Holds history capacity base options old readings s → slice_get mid i ≡ Some a
+  pub holds_at : (base : Histories) (options : Options) (readings : Option Readings) (s : State) (old mid : List (Application R)) (i : ℕ) (a : Application R) → AreKept history capacity snapshots faults old mid → Holds history capacity base options old readings s → slice_get mid i ≡ Some a
       → (history a.recorder ≡ Some (s.histories a.name)) × (slice_get (names_in old) i ≡ Some a.name)
-  holds_at base options readings s old mid i a x held at = ((((x.holds base options readings s held).each) i a at).told, ap (λ (names : List Name). slice_get names i) (sym x.names) ∙ name-at mid i a at)
+  holds_at base options readings s old mid i a x held at = ((((x.holds base options readings s held).each) i a at).told, ap (λ (names : List Name). slice_get names i) (sym x.stay.names) ∙ name-at mid i a at)
 
 -- the first of some applications hold nothing
 abbrev pub AreEmptyTo : List Name → ℕ → Histories → Type 0
 AreEmptyTo names i h = (k : ℕ) (n : Name) → k < i → slice_get names k ≡ Some n → h n ≡ []
+
+pub empty_none : (names : List Name) (h : Histories) → AreEmptyTo names 0 h
+empty_none names h k n below at = absurd (omega (arith, below))
 
 empty_of : (h : List Recording) (used : Bool) → used ≡ ltb 0 (length h) → used ≡ false → h ≡ []
 empty_of [] used is unused = refl

@@ -1,5 +1,5 @@
 -- From a run over opened applications to one over the stores.
-use Rattle.std.proofs.Common.{◌≡◌, ◌≤◌, ◌⊎◌, ◌||◌, inl, inr, pos, ℕ, Bool, true, false, List, [], ◌++◌, length, take, drop, Option, Some, None, IfOk, Result, Ok, Err, if◌then◌else◌, map, option_map, slice_get, refl, sym, ap, ◌∙◌, subst, append-nil, arith}
+use Rattle.std.proofs.Common.{◌≡◌, ◌≤◌, ◌||◌, inl, inr, pos, ℕ, Bool, true, false, List, [], ◌++◌, length, take, drop, Option, Some, None, IfOk, Result, Ok, Err, if◌then◌else◌, map, option_map, slice_get, refl, sym, ap, ◌∙◌, subst, append-nil, arith}
 use Rattle.std.proofs.lemmas.Option.{slice_get-map}
 use Rattle.std.proofs.Math.Seq.{take-append_seam}
 use Rattle.std.specs.Io.KnownBytes.{Appends}
@@ -11,82 +11,100 @@ use Rattle.es_model.specs.Values.{Name}
 use Rattle.es_io.specs.Readings.{Readings}
 use Rattle.es_lines.specs.declared.ends.End.{End}
 use Rattle.es_lines.specs.declared.ends.End.TheVariants as end
+use Rattle.es_io.specs.Remains.{MayHold}
 use Rattle.es_process.specs.declared.application.Application.{Application}
 use Rattle.es_process.specs.Drains.{IsOnlyPair, AreApps}
 use Rattle.es_process.specs.declared.draining.Pair.{Pair}
-use Rattle.es_process.specs.SingleThread.{Step, is_among, written_by}
+use Rattle.es_process.specs.SingleThread.{is_among, left_by, written_by}
 use Rattle.es_process.specs.Standing.{AreDistinct, SomeRose, faults_at, names_in}
 use Rattle.es_process.specs.SystemRules.{rules_of, app_names}
 use Rattle.es_process.proofs.DrainLemmas.{run-exists}
-use Rattle.es_process.proofs.StandingLemmas.{appends_nothing, front_none}
+use Rattle.es_process.proofs.StandingLemmas.{appends_nothing}
 use Rattle.es_single.specs.Limits.{limits, terms_of, all_lines}
 use Rattle.es_single.specs.Runs.{AreEmpty, IsRunning, PartRun, Runs, WholeRun}
-use Rattle.es_top.specs.Opened.{marked, AreFresh, HoldElsewhere, TellEach, IsOccupied, IsOccupiedTest, SomeFailed, IsBuilt, is_beyond, has_interval, has_several}
-use Rattle.es_top.specs.Ran.{HasBegun, IfOwn, IsOfSystem, RanBy, RunsOrNot, Untouched}
-use Rattle.es_top.specs.Top.{IfTold, IsLeft, Ran, RanInPart, RanIntoText}
+use Rattle.es_single.specs.Traced.{OfInput}
+use Rattle.es_top.specs.Ends.{itself, sort_of, unbegun}
+use Rattle.es_top.specs.Opened.{marked, AreFresh, HoldElsewhere, TellEach, IsOccupied, IsOccupiedTest, SomeFailed, is_beyond, has_interval, has_several}
+use Rattle.es_top.specs.Ran.{IsOfSystem, Stands}
+use Rattle.es_top.specs.Top.{FollowsBy, IfTold, IsLeft, Made}
 
--- any readings, where none matter
-pub any : Readings
-any = record { next = []; after = pos 0 }
+-- something that an object may hold
+may_hold : {A : Type 0} (told : Option A) → A → (a : A) × MayHold told a
+may_hold None a = (a, tt)
+may_hold (Some told) a = (told, refl)
 
-module _ (sys : System) (openings : Histories) (r : Readings) (i : List ℕ) (left : Histories → Type 0) (u w : Option (List ℕ)) where
-  -- nothing was done
-  pub part_none : left openings → w ≡ u → (x : PartRun (terms_of sys) openings r i left u w []) × HasBegun sys openings x.done
-  part_none held still =
-      let one = run-exists (rules_of sys) limits openings r (all_lines i) in (
-        record {
-          run = one.run;
-          done = [];
-          rest = one.run.steps;
-          is = one.is;
-          parts = refl;
-          next = front_none one.run.steps;
-          held = held;
-          written = subst (λ x. Appends u x []) (sym still) (appends_nothing u);
-        },
-        inr refl,
-      )
+-- an input and readings, of which none was taken
+pub of_input : (left : Option (List ℕ)) (clock : Option Readings) (P : List ℕ → List ℕ → Readings → Type 0) → ((i : List ℕ) (r : Readings) → P i i r) → OfInput left left clock P
+of_input left clock P holds =
+    let i = may_hold left [] in
+    let r = may_hold clock (record { next = []; after = pos 0 }) in
+    record { input = i.0; rest = i.0; readings = r.0; held = i.1; left = i.1; told = r.1; holds = holds i.0 r.0 }
 
-  -- a run over applications that were found empty
-  pub empty_runs : AreEmpty (app_names sys) openings → (unread : Option (List ℕ)) (result : Result End Failed) → Runs (terms_of sys) openings r i unread left u w result → RunsOrNot sys openings r i unread left u w result
-  empty_runs empty unread (Err f) x = (x.0, x.1, inl empty)
-  empty_runs empty unread (Ok (end.Ok added lines)) x = x
-  empty_runs empty unread (Ok (end.Refused app leader id recordings code rule)) x = x
-  empty_runs empty unread (Ok (end.Turns app turns)) x = x
-  empty_runs empty unread (Ok (end.Unreadable app id)) x = x
-  empty_runs empty unread (Ok (end.Full app last capacity)) x = x
-  empty_runs empty unread (Ok end.Over) x = x
-  empty_runs empty unread (Ok end.Memory) x = (x, inl empty)
-  empty_runs empty unread (Ok end.Input) x = (x, inl empty)
-  empty_runs empty unread (Ok end.Recorder) x = (x, inl empty)
-  empty_runs empty unread (Ok end.NotBuilt) x = absurd x
-  empty_runs empty unread (Ok end.Usage) x = absurd x
-  empty_runs empty unread (Ok (end.Declaration code path)) x = absurd x
-  empty_runs empty unread (Ok end.System) x = absurd x
+-- what follows of them
+pub of_then : {old new : Option (List ℕ)} {clock : Option Readings} {P Q : List ℕ → List ℕ → Readings → Type 0} → OfInput old new clock P → ((i rest : List ℕ) (r : Readings) → P i rest r → Q i rest r) → OfInput old new clock Q
+of_then x f = record { input = x.input; rest = x.rest; readings = x.readings; held = x.held; left = x.left; told = x.told; holds = f x.input x.rest x.readings x.holds }
+
+-- nothing was run; all steps are still to be made
+abbrev pub made_none : (sys : System) (i : List ℕ) (r : Readings) (h : Histories) (left : Histories → Type 0) (u w : Option (List ℕ)) → left h → w ≡ u → Made sys i r h left u w []
+made_none sys i r h left u w held still =
+    let one = run-exists (rules_of sys) limits h r (all_lines i) in
+    record { run = one.run; done = []; rest = one.run.steps; is = one.is; parts = refl; begun = inr refl; held = held; written = subst (λ x. Appends u x []) (sym still) (appends_nothing u) }
+
+-- a run over applications that were found empty
+module _ (sys : System) (h : Histories) (r : Readings) (i : List ℕ) (left : Histories → Type 0) (u w : Option (List ℕ)) (plain : is_beyond sys ≡ false) (empty : AreEmpty (app_names sys) h) (rest_of : List ℕ) where
+  abbrev made_part : (front : List ℕ) → PartRun (terms_of sys) h r i left u w front → Made sys i r h left u w front
+  made_part front x = record { run = x.run; done = x.done; rest = x.rest; is = x.is; parts = x.parts; begun = inl (plain, empty); held = x.held; written = x.written }
+
+  abbrev made_whole : (e : End) → WholeRun (terms_of sys) h r i left u w e → (x : Made sys i r h left u w []) × FollowsBy (Unit {0}) (Unit {0}) ⊥ sys i rest_of r h x.run x.done x.rest itself e
+  made_whole e x = (
+    record {
+      run = record { steps = x.steps; end = e };
+      done = x.steps;
+      rest = [];
+      is = x.is;
+      parts = sym (append-nil x.steps);
+      begun = inl (plain, empty);
+      held = x.held;
+      written = subst (Appends u w) (sym (append-nil (written_by x.steps))) x.written;
+    },
+    ((plain, empty), refl, refl),
+  )
+
+  pub run_stands : (result : Result End Failed) → Runs (terms_of sys) h r i (Some rest_of) left u w result → Stands sys i rest_of r h left u w result
+  run_stands (Err f) x = (x.0, made_part x.0 x.1, x.1.next)
+  run_stands (Ok end.Memory) x = (made_part [] x, λ is. tt)
+  run_stands (Ok end.Recorder) x = (made_part [] x, λ is. tt)
+  run_stands (Ok end.Input) x = (made_part [] x.0, (tt, x.1))
+  run_stands (Ok end.NotBuilt) x = absurd x
+  run_stands (Ok end.Usage) x = absurd x
+  run_stands (Ok (end.Declaration code path)) x = absurd x
+  run_stands (Ok end.System) x = absurd x
+  run_stands (Ok e) x = made_whole e x
 
 -- an end of a run comes after the system was read, and isn't that the system isn't run
-pub running_ends : (e : End) → IsRunning e → IsOfSystem e × (e ≡ end.NotBuilt → ⊥)
-running_ends (end.Ok added lines) so = ((λ is. cc is, λ code path is. cc is, λ is. cc is), λ is. cc is)
-running_ends (end.Refused app leader id recordings code rule) so = ((λ is. cc is, λ code path is. cc is, λ is. cc is), λ is. cc is)
-running_ends (end.Turns app turns) so = ((λ is. cc is, λ code path is. cc is, λ is. cc is), λ is. cc is)
-running_ends (end.Unreadable app id) so = ((λ is. cc is, λ code path is. cc is, λ is. cc is), λ is. cc is)
-running_ends (end.Full app last capacity) so = ((λ is. cc is, λ code path is. cc is, λ is. cc is), λ is. cc is)
-running_ends end.Over so = ((λ is. cc is, λ code path is. cc is, λ is. cc is), λ is. cc is)
-running_ends end.Memory so = ((λ is. cc is, λ code path is. cc is, λ is. cc is), λ is. cc is)
-running_ends end.Input so = ((λ is. cc is, λ code path is. cc is, λ is. cc is), λ is. cc is)
-running_ends end.Recorder so = ((λ is. cc is, λ code path is. cc is, λ is. cc is), λ is. cc is)
-running_ends end.NotBuilt so = absurd so
-running_ends end.Usage so = absurd so
-running_ends (end.Declaration code path) so = absurd so
-running_ends end.System so = absurd so
+running_sort : (e : End) → IsRunning e → (sort_of e ≡ unbegun → ⊥) × (e ≡ end.NotBuilt → ⊥)
+running_sort end.NotBuilt so = absurd so
+running_sort end.Usage so = absurd so
+running_sort (end.Declaration code path) so = absurd so
+running_sort end.System so = absurd so
+running_sort e so = (λ is. cc is, λ is. cc is)
 
-pub running_of_system : (result : Result End Failed) → IfOk result IsRunning → IfOk result IsOfSystem
-running_of_system (Ok e) so = (running_ends e so).0
-running_of_system (Err f) so = tt
+pub running_result : (result : Result End Failed) → IfOk result IsRunning → IfOk result IsOfSystem
+running_result (Ok e) so = (running_sort e so).0
+running_result (Err f) so = tt
 
-pub running_built : {P : Type 0} (result : Result End Failed) → IfOk result IsRunning → result ≡ Ok end.NotBuilt → P
-running_built (Ok e) so is = absurd ((running_ends e so).1 (cc is))
-running_built (Err f) so is = absurd (cc is)
+pub running_ends : {P : Type 0} (result : Result End Failed) → IfOk result IsRunning → result ≡ Ok end.NotBuilt → P
+running_ends (Ok e) so is = absurd ((running_sort e so).1 (cc is))
+running_ends (Err f) so is = absurd (cc is)
+
+-- what is held, in other words
+abbrev made_held : (sys : System) (i : List ℕ) (r : Readings) (h : Histories) (left now : Histories → Type 0) (u w : Option (List ℕ)) → ((k : Histories) → left k → now k) → (tail : List ℕ) → Made sys i r h left u w tail → Made sys i r h now u w tail
+made_held sys i r h left now u w closed tail x = record { run = x.run; done = x.done; rest = x.rest; is = x.is; parts = x.parts; begun = x.begun; held = closed (left_by x.done h) x.held; written = x.written }
+
+pub stands_held : (sys : System) (i : List ℕ) (rest_of : List ℕ) (r : Readings) (h : Histories) (left now : Histories → Type 0) (u w : Option (List ℕ)) → ((k : Histories) → left k → now k) → (result : Result End Failed)
+    → Stands sys i rest_of r h left u w result → Stands sys i rest_of r h now u w result
+stands_held sys i rest_of r h left now u w closed (Ok e) x = (made_held sys i r h left now u w closed [] x.0, x.1)
+stands_held sys i rest_of r h left now u w closed (Err f) x = (x.0, made_held sys i r h left now u w closed x.0 x.1, x.2)
 
 -- the applications of the one pair are those of the system, in its order
 pub pair_apps : (sys : System) (names : List Name) (p : Option Pair) → IsOnlyPair sys names p → AreApps sys names
@@ -100,34 +118,10 @@ found_empty names found h b named is told = subst (λ n. IsOccupiedTest n h fals
 pub found_occupied : (names found : List Name) (h : Histories) (b : Bool) → found ≡ names → b ≡ true → IsOccupiedTest found h b → IsOccupied names h
 found_occupied names found h b named is told = subst (λ n. IsOccupiedTest n h true) named (subst (IsOccupiedTest found h) is told)
 
--- a claim on an end of its own
-own_claim : (e : End) (P : Type 0) → P → IfOwn e P
-own_claim (end.Ok added lines) P p = p
-own_claim (end.Refused app leader id recordings code rule) P p = p
-own_claim (end.Turns app turns) P p = p
-own_claim (end.Unreadable app id) P p = p
-own_claim (end.Full app last capacity) P p = p
-own_claim end.Over P p = p
-own_claim end.Memory P p = tt
-own_claim end.Input P p = tt
-own_claim end.Recorder P p = tt
-own_claim end.NotBuilt P p = tt
-own_claim end.Usage P p = tt
-own_claim (end.Declaration code path) P p = tt
-own_claim end.System P p = tt
-
-pub own_result : (result : Result End Failed) (P : Type 0) → P → IfOk result (λ e. IfOwn e P)
-own_result (Ok e) P p = own_claim e P p
-own_result (Err f) P p = tt
-
 -- a claim on told stores
 pub if_told : (held : Option Histories) (P : Histories → Type 0) → ((h : Histories) → held ≡ Some h → P h) → IfTold held P
 if_told None P told = tt
 if_told (Some h) P told = told h refl
-
-pub own_told : (held : Option Histories) (P : Histories → Type 0) (result : Result End Failed) → ((h : Histories) → held ≡ Some h → IfOk result (λ e. IfOwn e (P h))) → IfOk result (λ e. IfOwn e (IfTold held P))
-own_told None P result told = own_result result (Unit {0}) tt
-own_told (Some h) P result told = told h refl
 
 pub left_told : {A : Type 0} (held new : Option (Name → A)) → ((h : Name → A) → held ≡ Some h → new ≡ Some h) → IsLeft held new
 left_told None new told = tt
@@ -135,10 +129,6 @@ left_told (Some h) new told = told h refl
 
 pub left_is : {A : Type 0} (h : Name → A) (held new : Option (Name → A)) → held ≡ Some h → IsLeft held new → new ≡ Some h
 left_is h held new told left = subst (λ o. IsLeft o new) told left
-
-pub left_same : {A : Type 0} (held : Option (Name → A)) → IsLeft held held
-left_same None = tt
-left_same (Some h) = refl
 
 -- applications that have the same names and tell the same tell what was opened
 pub told_still : {A R : Type 0} (tell : R → Option A) (q : Name → A) (old new : List (Application R)) → names_in new ≡ names_in old → map (λ (a : Application R). tell a.recorder) new ≡ map (λ (a : Application R). tell a.recorder) old → TellEach tell q old → TellEach tell q new
@@ -195,72 +185,13 @@ some_failed faults old new fresh rose =
 pub rose_later : (before opened now : ℕ) → before ≤ opened → Rose opened now → Rose before now
 rose_later before opened now later rose = omega arith
 
--- a run over opened applications is a run over the stores
-module _ (sys : System) (i : List ℕ) (r : Readings) (h : Histories) (unread : Option (List ℕ)) (L : Histories → Type 0) (new : Option Histories) (u w : Option (List ℕ)) (plain : is_beyond sys ≡ false) (closed : (k : Histories) → L k → new ≡ Some k) where
-  begun_of : (done : List Step) → HasBegun sys h done → IsBuilt sys h ⊎ (done ≡ [])
-  begun_of done (inl empty) = inl (plain, empty)
-  begun_of done (inr none) = inr none
+-- a class wants snapshots, or there are several pairs
+pub beyond_interval : (sys : System) → has_interval sys ≡ true → is_beyond sys ≡ true
+beyond_interval sys some = ap (λ b. b || has_several sys) some
 
-  ran_of : (e : End) → WholeRun (terms_of sys) h r i L u w e → Ran sys i r h new u w [] e
-  ran_of e x = record {
-    run = record { steps = x.steps; end = e };
-    is = x.is;
-    ends = refl;
-    stores = closed _ x.held;
-    written = subst (Appends u w) (sym (append-nil (written_by x.steps))) x.written;
-  }
-
-  abbrev cut_of : (x : PartRun (terms_of sys) h r i L u w []) → HasBegun sys h x.done → RanInPart sys i r h new u w []
-  cut_of x begun = record {
-    run = x.run;
-    done = x.done;
-    rest = x.rest;
-    is = x.is;
-    parts = x.parts;
-    begun = begun_of x.done begun;
-    stores = closed _ x.held;
-    written = x.written;
-  }
-
-  text_of : (front : List ℕ) (x : PartRun (terms_of sys) h r i L u w front) → HasBegun sys h x.done → RanIntoText ⊥ ⊥ ⊥ sys i r h new u w
-  text_of front x begun = record {
-    run = x.run;
-    done = x.done;
-    rest = x.rest;
-    front = front;
-    is = x.is;
-    parts = x.parts;
-    begun = begun_of x.done begun;
-    stores = closed _ x.held;
-    written = x.written;
-    next = inl x.next;
-  }
-
-  untouched_of : Untouched h L u w → (new ≡ Some h) × (w ≡ u)
-  untouched_of x = (closed h x.still, x.unwritten)
-
-  pub ran_by : (result : Result End Failed) → RunsOrNot sys h r i unread L u w result → RanBy sys i r h unread new u w result
-  ran_by (Err f) x = text_of x.0 x.1 x.2
-  ran_by (Ok (end.Ok added lines)) x = ran_of (end.Ok added lines) x
-  ran_by (Ok (end.Refused app leader id recordings code rule)) x = ran_of (end.Refused app leader id recordings code rule) x
-  ran_by (Ok (end.Turns app turns)) x = ran_of (end.Turns app turns) x
-  ran_by (Ok (end.Unreadable app id)) x = ran_of (end.Unreadable app id) x
-  ran_by (Ok (end.Full app last capacity)) x = ran_of (end.Full app last capacity) x
-  ran_by (Ok end.Over) x = ran_of end.Over x
-  ran_by (Ok end.Memory) x = cut_of x.0 x.1
-  ran_by (Ok end.Input) x = (cut_of x.0.0 x.1, x.0.1)
-  ran_by (Ok end.Recorder) x = cut_of x.0 x.1
-  ran_by (Ok end.NotBuilt) x = untouched_of x
-  ran_by (Ok end.Usage) x = untouched_of x
-  ran_by (Ok (end.Declaration code path)) x = untouched_of x
-  ran_by (Ok end.System) x = untouched_of x
+pub beyond_several : (sys : System) → has_interval sys ≡ false → has_several sys ≡ true → is_beyond sys ≡ true
+beyond_several sys none several = ap (λ b. b || has_several sys) none ∙ several
 
 -- no class wants snapshots and there aren't several pairs
 pub plain : (sys : System) → has_interval sys ≡ false → has_several sys ≡ false → is_beyond sys ≡ false
 plain sys none one = ap (λ b. b || has_several sys) none ∙ one
-
--- nothing was run; all steps are still to be made
-abbrev pub ran_none : (sys : System) (i : List ℕ) (r : Readings) (h : Histories) (new : Option Histories) (u w : Option (List ℕ)) → new ≡ Some h → w ≡ u → RanInPart sys i r h new u w []
-ran_none sys i r h new u w same still =
-    let one = run-exists (rules_of sys) limits h r (all_lines i) in
-    record { run = one.run; done = []; rest = one.run.steps; is = one.is; parts = refl; begun = inr refl; stores = same; written = subst (λ x. Appends u x []) (sym still) (appends_nothing u) }

@@ -1,27 +1,32 @@
--- Statuses, and the ends of a run that they tell.
-use Rattle.std.specs.Prelude.{◌≡◌, ◌⊎◌, ℕ, Bool, true, false}
+-- Statuses, the ends of a run that they tell, and what an end tells.
+use Rattle.std.specs.Prelude.{◌≡◌, ◌⊎◌, ℕ, List, false, Option, Some, None, option_map}
+use Rattle.std.specs.Io.KnownBytes.{Appends}
+use Rattle.es_io.specs.Front.{AppendsFront}
 use Rattle.es_lines.specs.declared.ends.End.{End}
 use Rattle.es_lines.specs.declared.ends.End.TheVariants as end
+use Rattle.es_lines.specs.Texts.{end_text, is_fixed}
+use Rattle.es_process.specs.SingleThread.{as_line}
 use Rattle.es_top.specs.declared.loading.LoadFault.{LoadFault}
 use Rattle.es_top.specs.declared.loading.LoadFault.TheVariants.{Declaration, Failed, NoMemory}
 use Rattle.es_top.specs.declared.status.Status.{Status}
 use Rattle.es_top.specs.declared.status.Status.TheVariants as status
 
--- the status of an end whose line was written
-abbrev pub status_of : End → Status
-status_of (end.Ok added lines) = status.Ok added lines
-status_of end.Memory = status.Memory
-status_of end.Usage = status.Usage
-status_of (end.Declaration code path) = status.Declaration code path
-status_of end.System = status.System
-status_of end.Input = status.Input
-status_of end.Recorder = status.Recorder
-status_of (end.Refused app leader id recordings code rule) = status.Refused app leader id recordings code rule
-status_of (end.Turns app turns) = status.Turns app turns
-status_of (end.Unreadable app id) = status.Unreadable app id
-status_of (end.Full app last capacity) = status.Full app last capacity
-status_of end.Over = status.Over
-status_of end.NotBuilt = status.NotBuilt
+-- the end that a status tells: each but a failed sink tells one
+abbrev pub ended : Status → Option End
+ended (status.Ok added lines) = Some (end.Ok added lines)
+ended status.Memory = Some end.Memory
+ended status.Usage = Some end.Usage
+ended (status.Declaration code path) = Some (end.Declaration code path)
+ended status.System = Some end.System
+ended status.Input = Some end.Input
+ended status.Sink = None
+ended status.Recorder = Some end.Recorder
+ended (status.Refused app leader id recordings code rule) = Some (end.Refused app leader id recordings code rule)
+ended (status.Turns app turns) = Some (end.Turns app turns)
+ended (status.Unreadable app id) = Some (end.Unreadable app id)
+ended (status.Full app last capacity) = Some (end.Full app last capacity)
+ended status.Over = Some end.Over
+ended status.NotBuilt = Some end.NotBuilt
 
 -- the number of a status
 abbrev pub code_of : Status → ℕ
@@ -40,27 +45,58 @@ code_of (status.Full app last capacity) = 12
 code_of status.Over = 13
 code_of status.NotBuilt = 15
 
--- the ends whose lines have fixed bytes
-abbrev pub is_fixed : End → Bool
-is_fixed (end.Ok added lines) = false
-is_fixed (end.Declaration code path) = false
-is_fixed (end.Refused app leader id recordings code rule) = false
-is_fixed (end.Turns app turns) = false
-is_fixed (end.Unreadable app id) = false
-is_fixed (end.Full app last capacity) = false
-is_fixed end.Memory = true
-is_fixed end.Usage = true
-is_fixed end.System = true
-is_fixed end.Input = true
-is_fixed end.Recorder = true
-is_fixed end.Over = true
-is_fixed end.NotBuilt = true
+-- what an end tells of the run: that it came to an end of its own, that want of memory or a recorder cut it short, that reading the lines did, that this stage doesn't make it, or that it didn't begin
+pub data Sort : Type 0 where
+  itself : Sort
+  stopped : Sort
+  in_lines : Sort
+  unbuilt : Sort
+  unbegun : Sort
+
+abbrev pub sort_of : End → Sort
+sort_of (end.Ok added lines) = itself
+sort_of (end.Refused app leader id recordings code rule) = itself
+sort_of (end.Turns app turns) = itself
+sort_of (end.Unreadable app id) = itself
+sort_of (end.Full app last capacity) = itself
+sort_of end.Over = itself
+sort_of end.Memory = stopped
+sort_of end.Recorder = stopped
+sort_of end.Input = in_lines
+sort_of end.NotBuilt = unbuilt
+sort_of end.Usage = unbegun
+sort_of (end.Declaration code path) = unbegun
+sort_of end.System = unbegun
+
+-- what a status tells of the run
+abbrev pub sorted : Status → Option Sort
+sorted s = option_map sort_of (ended s)
+
+-- an end is told as itself, or, where its line has members, as one for want of memory
+abbrev pub IsToldAs : End → End → Type 0
+IsToldAs e told = (told ≡ e) ⊎ ((told ≡ end.Memory) × (is_fixed e ≡ false))
+
+-- what telling an end writes: where one was told its line, and where the sink failed a front of such a line
+abbrev pub Writes : End → Option (List ℕ) → Option (List ℕ) → Option End → Type 0
+Writes e before now (Some told) = IsToldAs e told × Appends before now (as_line (end_text told))
+Writes e before now None = (told : End) × IsToldAs e told × AppendsFront before now (as_line (end_text told))
+
+-- the same of one line
+abbrev pub WritesLine : End → List ℕ → Option (List ℕ) → Option (List ℕ) → Option End → Type 0
+WritesLine e line before now (Some told) = (told ≡ e) × Appends before now line
+WritesLine e line before now None = AppendsFront before now line
 
 -- the end of a run whose system couldn't be loaded
 abbrev pub end_of_load : LoadFault → End
 end_of_load (Declaration code path) = end.Declaration code path
 end_of_load Failed = end.System
 end_of_load NoMemory = end.Memory
+
+-- and its status, where the end line was written
+abbrev pub status_of_load : LoadFault → Status
+status_of_load (Declaration code path) = status.Declaration code path
+status_of_load Failed = status.System
+status_of_load NoMemory = status.Memory
 
 -- a status that a fault of the document or of the sink gives, or want of memory
 abbrev pub IsStopped : Status → Type 0
@@ -69,25 +105,3 @@ IsStopped result = (result ≡ status.System) ⊎ (result ≡ status.Sink) ⊎ (
 -- a claim on a run of which it is seen how far it came: memory didn't run out, and the sink didn't fail
 abbrev pub IfSeen : Status → Type 0 → Type 0
 IfSeen result P = (result ≡ status.Memory) ⊎ ((result ≡ status.Sink) ⊎ P)
-
--- a claim on the end of a run that didn't begin
-abbrev pub OfEarly : Status → (End → Type 0) → Type 0
-OfEarly status.Usage P = P end.Usage
-OfEarly (status.Declaration code path) P = P (end.Declaration code path)
-OfEarly status.System P = P end.System
-OfEarly s P = Unit {0}
-
--- the run didn't begin
-abbrev pub IsEarly : Status → Type 0
-IsEarly status.Usage = Unit {0}
-IsEarly (status.Declaration code path) = Unit {0}
-IsEarly status.System = Unit {0}
-IsEarly s = ⊥
-
--- an end of a run that didn't begin
-abbrev pub IsEarlyEnd : End → Type 0
-IsEarlyEnd end.Usage = Unit {0}
-IsEarlyEnd (end.Declaration code path) = Unit {0}
-IsEarlyEnd end.System = Unit {0}
-IsEarlyEnd end.Memory = Unit {0}
-IsEarlyEnd e = ⊥

@@ -2,10 +2,10 @@
 use Rattle.std.specs.Prelude.{◌≡◌, ◌⊎◌, ◌<◌, ℕ, List, length, ◌++◌, Option, Some, None, Result, Ok, Err, IsSome}
 use Rattle.std.specs.Io.KnownBytes.{Consumes, IsAtEnd}
 use Rattle.es_model.specs.declared.declaration.System.{System}
+use Rattle.es_model.specs.declared.limits.TheConstants.{MOST_DOCUMENT_BYTES}
 use Rattle.es_model.specs.Values.{Name}
 use Rattle.es_io.specs.Documents.{NamedDocuments}
 use Rattle.es_decl.specs.Readings.{Reading}
-use Rattle.es_top.specs.declared.loading.TheConstants.{DOCUMENT_LIMIT}
 use Rattle.es_top.specs.declared.loading.LoadFault.{LoadFault}
 use Rattle.es_top.specs.declared.loading.LoadFault.TheVariants.{Declaration, Failed, NoMemory}
 use Rattle.es_top.specs.Declares.{name_declares}
@@ -31,7 +31,7 @@ Gives r (Err NoMemory) = Unit {0}
 
 -- more bytes than a document may have
 abbrev pub IsTooLong : List ℕ → Type 0
-IsTooLong bytes = DOCUMENT_LIMIT < length bytes
+IsTooLong bytes = MOST_DOCUMENT_BYTES < length bytes
 
 -- of the bytes that a source had left these were read: all of them, or a front that is too long
 pub record IsRead (old new : Option (List ℕ)) (read : List ℕ) : Type 0 where

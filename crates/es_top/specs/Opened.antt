@@ -2,13 +2,17 @@
 use Rattle.std.specs.Prelude.{◌≡◌, ◌⊎◌, ◌<◌, ℕ, nat_lt, ◌||◌, Bool, true, false, List, ◌++◌, length, Contains, slice_get, if◌then◌else◌, Option, Some, is_some}
 use Rattle.std.specs.List.{list_any}
 use Rattle.es_model.specs.declared.declaration.System.{System}
+use Rattle.es_model.specs.declared.event.Recording.{Recording}
+use Rattle.es_model.specs.declared.snapshot.Snapshot.{Snapshot}
 use Rattle.es_model.specs.History.{Histories}
 use Rattle.es_model.specs.Values.{Name}
+use Rattle.es_io.specs.Readings.{Readings}
 use Rattle.es_decl.specs.Pairs.{pairs_of}
 use Rattle.es_process.specs.declared.application.Application.{Application}
+use Rattle.es_process.specs.Answer.{Options}
 use Rattle.es_process.specs.Drains.{IsOnlyPair}
 use Rattle.es_process.specs.SingleThread.{is_among}
-use Rattle.es_process.specs.Standing.{faults_at, names_in}
+use Rattle.es_process.specs.Standing.{State, Holds, AllStay, faults_at, names_in}
 use Rattle.es_process.specs.SystemRules.{app_names}
 use Rattle.es_single.specs.Limits.{limits}
 use Rattle.es_single.specs.Runs.{AreEmpty}
@@ -54,6 +58,11 @@ pub record AreOpened {R : Type 0} (capacity faults : R → ℕ) (out out_now : N
   pub each : (i : ℕ) (a : Application R) → slice_get apps i ≡ Some a → IsOpened capacity faults a
   pub marks : (n : Name) → out_now n ≡ marked out (names_in apps) true n
   pub were_in : (n : Name) → is_among n (names_in apps) ≡ true → out n ≡ false
+
+-- the applications hold what they held
+pub record AreKept {R : Type 0} (history : R → Option (List Recording)) (capacity : R → ℕ) (snapshots : R → Option (List Snapshot)) (faults : R → ℕ) (old new : List (Application R)) : Type 0 where
+  pub holds : (base : Histories) (options : Options) (readings : Option Readings) (s : State) → Holds history capacity base options old readings s → Holds history capacity base options new readings s
+  pub stay : AllStay snapshots faults old new
 
 -- some names are the first of these
 abbrev pub IsFrontOfNames : List Name → List Name → Type 0

@@ -10,6 +10,3 @@ mod words;
 
 pub use status::Status;
 pub use top::evsys_single;
-
-#[cfg(test)]
-mod tests;

@@ -1,4 +1,4 @@
-ghost use Rattle.std.specs.Prelude.{◌≡◌, ◌≤◌, ◌<◌, ◌+◌, IfOk, IsErrOf, length};
+ghost use Rattle.std.specs.Prelude.{◌≤◌, ◌<◌, ◌+◌, IfOk, IsErrOf, length};
 ghost use Rattle.es_model.specs.Causes.{CallHasCause, Rose};
 ghost use Rattle.es_expr.specs.Checked.{IsCheckedSystem};
 ghost use Rattle.es_io.specs.Next.{TakesAtMost};
@@ -8,11 +8,9 @@ ghost use Rattle.es_top.specs.Loads.{Gives, IsDocument, IsRead, Loads, ReadsOn};
 
 use es_decl::{DeclFault, read_system, sample};
 use es_io::{Document, Source};
+use es_model::limits::MOST_DOCUMENT_BYTES;
 use es_model::{Bytes, CallFault, Code, NoMemory, System, Text};
 use std::alloc::Global;
-
-/// The most bytes that a document may have.
-const DOCUMENT_LIMIT: usize = 1_048_576;
 
 /// The most bytes that are read at once.
 const PIECE: usize = 8192;
@@ -77,7 +75,7 @@ fn read_piece<S: Source>(
 // Reads what a source has left, up to the first byte that is too many.
 fn read_rest<S: Source>(alloc: Global, source: &mut S) -> Result<Bytes, CallFault>
     ensures reads { IfOk result (IsRead (S.left source.old) (S.left source.new)) }
-    ensures bound { TakesAtMost (S.left source.old) (S.left source.new) (DOCUMENT_LIMIT + 1) 0 }
+    ensures bound { TakesAtMost (S.left source.old) (S.left source.new) (MOST_DOCUMENT_BYTES + 1) 0 }
     ensures later { S.faults source.old ≤ S.faults source.new }
     ensures failed { IsErrOf result CallFault.Failed → Rose (S.faults source.old) (S.faults source.new) }
 {
@@ -85,7 +83,7 @@ fn read_rest<S: Source>(alloc: Global, source: &mut S) -> Result<Bytes, CallFaul
         return Err(CallFault::NoMemory);
     };
     let mut bytes = Bytes::new(alloc);
-    let mut room = DOCUMENT_LIMIT + 1;
+    let mut room = MOST_DOCUMENT_BYTES + 1;
     while room > 0 {
         let count = read_piece(source, piece.as_mut_slice(), room, &mut bytes)?;
         if count == 0 {

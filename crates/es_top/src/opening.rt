@@ -13,24 +13,19 @@ ghost use Rattle.es_recorder.specs.Held.{put, SameElsewhere, ClosesTold};
 ghost use Rattle.es_process.specs.Answer.{Options};
 ghost use Rattle.es_process.specs.Drains.{IsPairOf};
 ghost use Rattle.es_process.specs.SingleThread.{is_among};
-ghost use Rattle.es_process.specs.Standing.{State, Holds, HoldHistories, IsSame, Later, SomeRose, AreDistinct, names_in, snapshots_in};
+ghost use Rattle.es_process.specs.Standing.{State, Holds, HoldHistories, IsSame, SomeRose, AreDistinct, names_in};
 ghost use Rattle.es_process.specs.SystemRules.{app_names};
 ghost use Rattle.es_single.specs.Limits.{limits};
 ghost use Rattle.es_single.specs.Runs.{state_of};
-ghost use Rattle.es_top.specs.Opened.{AreOpened, AreHandedOut, IsFrontOfNames, marked, HoldElsewhere, TellEach, AreFresh, SomeFailed, IsOccupiedTest, has_interval as has_interval_of, IsPairing};
+ghost use Rattle.es_top.specs.Opened.{AreKept, AreOpened, AreHandedOut, IsFrontOfNames, marked, HoldElsewhere, TellEach, AreFresh, SomeFailed, IsOccupiedTest, has_interval as has_interval_of, IsPairing};
 ghost use Rattle.es_top.specs.Top.{IsLeft};
 
 use es_decl::pairs;
+use es_model::limits::{DEFAULT_TURNS, MOST_CAPACITY};
 use es_model::{App, CallFault, Duplicate, NoMemory, System, Text};
 use es_process::{Application, Pair};
 use es_recorder::{ProcessRecorder, Stores};
 use std::alloc::Global;
-
-/// How many events an application may have.
-const CAPACITY: u64 = 1 << 40;
-
-/// How many notifications an application may record in a run.
-const TURNS: u64 = 1000000;
 
 /// Which applications of a system follow each other.
 #[derive(Debug, Drop)]
@@ -119,11 +114,11 @@ fn open_application<M: Stores>(stores: &mut M, name: &Text) -> Result<Applicatio
     let Ok(own) = name.copy() else {
         return Err(CallFault::NoMemory);
     };
-    match stores.open(None, &own, CAPACITY) {
+    match stores.open(None, &own, MOST_CAPACITY) {
         Ok(recorder) => Ok(Application {
             name: own,
             recorder,
-            turns: TURNS,
+            turns: DEFAULT_TURNS,
             used: 0,
         }),
         Err(fault) => Err(fault),
@@ -222,8 +217,7 @@ pub fn close_all<M: Stores>(stores: &mut M, mut apps: Vec<Application<M::R>>)
 // Whether one application holds a recording.
 fn is_used<R: ProcessRecorder>(app: &mut Application<R>) -> Result<bool, CallFault>
     ensures told { (h : List Recording) → R.history app.old.recorder ≡ Some h → IfOk result (λ used. used ≡ nat_lt 0 (length h)) }
-    ensures same { IsSame R.history R.capacity app.old app.new }
-    ensures same_snapshots { R.snapshots app.new.recorder ≡ R.snapshots app.old.recorder }
+    ensures same { IsSame R.history R.capacity R.snapshots R.faults app.old app.new }
     ensures cause { CallHasCause (R.faults app.old.recorder) (R.faults app.new.recorder) result }
 {
     match app.recorder.recordings() {
@@ -235,10 +229,7 @@ fn is_used<R: ProcessRecorder>(app: &mut Application<R>) -> Result<bool, CallFau
 /// Whether an application holds a recording.
 pub fn is_occupied<R: ProcessRecorder>(apps: &mut [Application<R>]) -> Result<bool, CallFault>
     ensures told { (base : Histories) (options : Options) (readings : Option Readings) (s : State) → Holds R.history R.capacity base options apps.old readings s → IfOk result (IsOccupiedTest (names_in apps.old) s.histories) }
-    ensures same { (base : Histories) (options : Options) (readings : Option Readings) (s : State) → Holds R.history R.capacity base options apps.old readings s → Holds R.history R.capacity base options apps.new readings s }
-    ensures same_names { names_in apps.new ≡ names_in apps.old }
-    ensures same_snapshots { snapshots_in R.snapshots apps.new ≡ snapshots_in R.snapshots apps.old }
-    ensures later { Later R.faults apps.old apps.new }
+    ensures same { AreKept R.history R.capacity R.snapshots R.faults apps.old apps.new }
     ensures recorder { IsErrOf result CallFault.Failed → SomeRose R.faults apps.old apps.new }
 {
     for app in apps.iter_mut() {

@@ -82,10 +82,10 @@ impl Status {
 }
 
 impl From<End> for Status {
-    ghost use Rattle.std.specs.Prelude.{◌≡◌};
-    ghost use Rattle.es_top.specs.Ends.{status_of};
+    ghost use Rattle.std.specs.Prelude.{◌≡◌, Some};
+    ghost use Rattle.es_top.specs.Ends.{ended};
 
-    ghost from_gives = { λ end status. status ≡ status_of end };
+    ghost from_gives = { λ end status. ended status ≡ Some end };
 
     fn from(end: End) -> Status {
         match end {

@@ -1,4 +1,4 @@
-ghost use Rattle.std.specs.Prelude.{◌≡◌, ◌⊎◌, ◌≤◌, List, ℕ, Option, Some, None, Ok, Err, IfOk, OnErr, false};
+ghost use Rattle.std.specs.Prelude.{◌≡◌, ◌⊎◌, ◌≤◌, List, ℕ, Some, None, Ok, Err, IfOk, OnErr, false};
 ghost use Rattle.std.specs.Io.KnownBytes.{Appends};
 ghost use Rattle.es_model.specs.Causes.{Rose};
 ghost use Rattle.es_model.specs.declared.declaration.Code.{Code};
@@ -10,22 +10,21 @@ ghost use Rattle.es_expr.specs.Checked.{IsCheckedSystem};
 ghost use Rattle.es_io.specs.Documents.{NamedDocuments};
 ghost use Rattle.es_io.specs.Front.{AppendsFront};
 ghost use Rattle.es_io.specs.Readings.{Readings};
+ghost use Rattle.es_decl.specs.Readings.{Reading};
+ghost use Rattle.es_lines.specs.declared.ends.End.{End as EndOf};
 ghost use Rattle.es_lines.specs.Texts.{end_text as text_of_end};
 ghost use Rattle.es_process.specs.Drains.{IsOnlyPair};
 ghost use Rattle.es_process.specs.SingleThread.{as_line, HasOneRun, start};
-ghost use Rattle.es_process.specs.Standing.{Holds, HoldHistories, Later, SomeRose, names_in, snapshots_in};
+ghost use Rattle.es_process.specs.Standing.{Holds, HoldHistories, AllStay, SomeRose, names_in};
 ghost use Rattle.es_process.specs.SystemRules.{rules_of, app_names};
 ghost use Rattle.es_single.specs.Limits.{limits, TakesLines};
-ghost use Rattle.es_single.specs.Runs.{state_of, AreEmpty};
-ghost use Rattle.es_decl.specs.Readings.{Reading};
-ghost use Rattle.es_lines.specs.declared.ends.End.{End as EndOf};
+ghost use Rattle.es_single.specs.Runs.{state_of};
+ghost use Rattle.es_single.specs.Traced.{OfInput};
 ghost use Rattle.es_top.specs.Declares.{declares, IsNotAsked};
-ghost use Rattle.es_top.specs.Ends.{code_of, end_of_load, IfSeen, IsStopped, IsEarly, IsEarlyEnd, OfEarly};
-ghost use Rattle.es_top.specs.Opened.{IsOccupied, IsNotBuilt, IsBuilt, is_beyond};
-ghost use Rattle.es_top.specs.Ran.{RunsOrNot, RanTold, IsOfSystem, IfOwn};
-ghost use Rattle.es_top.specs.Top.{WhereTold, WhereDeclared, OfRun, OfCut, Ran, RanInPart, RanIntoText, IfTold, IsLeft, LeavesConsistent, IsTied, IfRun, IsDone, IfOkStatus};
-ghost use Rattle.es_single.specs.Runs.{ReadTo};
-ghost use Rattle.es_single.specs.Limits.{terms_of};
+ghost use Rattle.es_top.specs.Ends.{end_of_load, ended, itself, sort_of, sorted, status_of_load, unbegun, IfSeen, IsStopped, Writes};
+ghost use Rattle.es_top.specs.Opened.{IsNotBuilt, IsBuilt, is_beyond};
+ghost use Rattle.es_top.specs.Ran.{IsOfSystem, Stands};
+ghost use Rattle.es_top.specs.Top.{IfTold, IsLeft, LeavesConsistent, Ran, WhereDeclared};
 ghost use Rattle.es_top.specs.Words.{system_in};
 
 use crate::Status;
@@ -51,17 +50,13 @@ fn run_opened<S: Source, T: Sink, R: ProcessRecorder, C: Clock>(
     clock: &mut C,
 ) -> Result<End, Failed>
     requires pair { IsOnlyPair sys.now (names_in apps.old) pair.now }
-    ensures runs { (i : List ℕ) (openings : Histories) (r : Readings) → S.left lines.old ≡ Some i → Holds R.history R.capacity openings limits apps.old (C.readings clock.old) (state_of openings r)
-        → RunsOrNot sys.now openings r i (S.left lines.new) (HoldHistories R.history openings apps.new) (T.written out.old) (T.written out.new) result }
+    requires built { is_beyond sys.now ≡ false }
+    ensures stands { OfInput (S.left lines.old) (S.left lines.new) (C.readings clock.old) (λ i rest r. (h : Histories) → Holds R.history R.capacity h limits apps.old (Some r) (state_of h r)
+        → Stands sys.now i rest r h (HoldHistories R.history h apps.new) (T.written out.old) (T.written out.new) result) }
     ensures of_system { IfOk result IsOfSystem }
-    ensures empty { (openings : Histories) (r : Readings) → Holds R.history R.capacity openings limits apps.old (Some r) (state_of openings r) → IfOk result (λ end. IfOwn end (AreEmpty (app_names sys.now) openings)) }
-    ensures occupied { (openings : Histories) (r : Readings) → Holds R.history R.capacity openings limits apps.old (Some r) (state_of openings r) → result ≡ Ok End.NotBuilt → IsOccupied (app_names sys.now) openings }
-    ensures still { (openings : Histories) (r : Readings) → Holds R.history R.capacity openings limits apps.old (Some r) (state_of openings r) → result ≡ Ok End.NotBuilt → HoldHistories R.history openings apps.new openings }
     ensures silent { result ≡ Ok End.NotBuilt → T.written out.new ≡ T.written out.old }
     ensures out_later { T.faults out.old ≤ T.faults out.new }
-    ensures same_names { names_in apps.new ≡ names_in apps.old }
-    ensures same_snapshots { snapshots_in R.snapshots apps.new ≡ snapshots_in R.snapshots apps.old }
-    ensures recorders_later { Later R.faults apps.old apps.new }
+    ensures same { AllStay R.snapshots R.faults apps.old apps.new }
     ensures bound { (result ≡ Ok End.Memory) ⊎ TakesLines (S.left lines.old) (S.left lines.new) }
     ensures input { result ≡ Ok End.Input → Rose (S.faults lines.old) (S.faults lines.new) }
     ensures sink { OnErr result (Rose (T.faults out.old) (T.faults out.new)) }
@@ -90,11 +85,9 @@ fn run_pair<S: Source, T: Sink, M: Stores, C: Clock>(
 ) -> Result<End, Failed>
     requires pair { IsOnlyPair sys.now (app_names sys.now) pair.now }
     requires built { is_beyond sys.now ≡ false }
-    ensures ran { RanTold sys.now (S.left lines.old) (S.left lines.new) (C.readings clock.old) (M.held stores.old) (M.held stores.new) (T.written out.old) (T.written out.new) result }
+    ensures stands { OfInput (S.left lines.old) (S.left lines.new) (C.readings clock.old) (λ i rest r. (h : Histories) → M.held stores.old ≡ Some h
+        → Stands sys.now i rest r h (λ k. M.held stores.new ≡ Some k) (T.written out.old) (T.written out.new) result) }
     ensures of_system { IfOk result IsOfSystem }
-    ensures empty { IfOk result (λ end. IfOwn end (IfTold (M.held stores.old) (AreEmpty (app_names sys.now)))) }
-    ensures occupied { result ≡ Ok End.NotBuilt → IfTold (M.held stores.old) (IsOccupied (app_names sys.now)) }
-    ensures still { result ≡ Ok End.NotBuilt → IsLeft (M.held stores.old) (M.held stores.new) }
     ensures silent { result ≡ Ok End.NotBuilt → T.written out.new ≡ T.written out.old }
     ensures closed { (name : Name) → M.out stores.new name ≡ M.out stores.old name }
     ensures same_snapshots { IsLeft (M.snapshots stores.old) (M.snapshots stores.new) }
@@ -125,11 +118,9 @@ fn run_system<S: Source, T: Sink, M: Stores, C: Clock>(
     clock: &mut C,
 ) -> Result<End, Failed>
     requires { IsCheckedSystem sys.now }
-    ensures ran { RanTold sys.now (S.left lines.old) (S.left lines.new) (C.readings clock.old) (M.held stores.old) (M.held stores.new) (T.written out.old) (T.written out.new) result }
+    ensures stands { OfInput (S.left lines.old) (S.left lines.new) (C.readings clock.old) (λ i rest r. (h : Histories) → M.held stores.old ≡ Some h
+        → Stands sys.now i rest r h (λ k. M.held stores.new ≡ Some k) (T.written out.old) (T.written out.new) result) }
     ensures of_system { IfOk result IsOfSystem }
-    ensures built { IfOk result (λ end. IfOwn end (IfTold (M.held stores.old) (IsBuilt sys.now))) }
-    ensures not_built { result ≡ Ok End.NotBuilt → IfTold (M.held stores.old) (IsNotBuilt sys.now) }
-    ensures still { result ≡ Ok End.NotBuilt → IsLeft (M.held stores.old) (M.held stores.new) }
     ensures silent { result ≡ Ok End.NotBuilt → T.written out.new ≡ T.written out.old }
     ensures closed { (name : Name) → M.out stores.new name ≡ M.out stores.old name }
     ensures same_snapshots { IsLeft (M.snapshots stores.old) (M.snapshots stores.new) }
@@ -159,26 +150,14 @@ fn run_to_end<S: Source, T: Sink, M: Stores, C: Clock>(
     clock: &mut C,
 ) -> Status
     requires { IsCheckedSystem sys.now }
-    ensures ran { WhereTold (S.left lines.old) (C.readings clock.old) (M.held stores.old)
-        (λ i r h. OfRun result (λ end. Ran sys.now i r h (M.held stores.new) (T.written out.old) (T.written out.new) (as_line (text_of_end end)) end)) }
-    ensures cut_short { WhereTold (S.left lines.old) (C.readings clock.old) (M.held stores.old)
-        (λ i r h. OfCut result (λ end. RanInPart sys.now i r h (M.held stores.new) (T.written out.old) (T.written out.new) (as_line (text_of_end end)))) }
-    ensures read_lines { result ≡ Status.Input → WhereTold (S.left lines.old) (C.readings clock.old) (M.held stores.old)
-        (λ i r h. (x : RanInPart sys.now i r h (M.held stores.new) (T.written out.old) (T.written out.new) (as_line (text_of_end End.Input))) × ReadTo (terms_of sys.now) i r h (S.left lines.new) x.done) }
-    ensures cut_text { result ≡ Status.Sink → WhereTold (S.left lines.old) (C.readings clock.old) (M.held stores.old)
-        (λ i r h. RanIntoText (Rose (S.faults lines.old) (S.faults lines.new)) (Rose (M.faults stores.old) (M.faults stores.new)) ⊥ sys.now i r h (M.held stores.new) (T.written out.old) (T.written out.new) ⊎ (IsNotBuilt sys.now h × (M.held stores.new ≡ Some h) × AppendsFront (T.written out.old) (T.written out.new) (as_line (text_of_end End.NotBuilt)))) }
-    ensures consistent { WhereTold (S.left lines.old) (C.readings clock.old) (M.held stores.old) (λ i r h. LeavesConsistent sys.now h (M.held stores.new)) }
-    ensures session { WhereTold (S.left lines.old) (C.readings clock.old) (M.held stores.old)
-        (λ i r h. IfRun result (IsTied sys.now (code_of result) i r h (M.held stores.new) (T.written out.old) (T.written out.new) result)) }
-    ensures reached { WhereTold (S.left lines.old) (C.readings clock.old) (M.held stores.old) (λ i r h. IfOkStatus result (λ added count. IsDone sys.now i h (M.held stores.new) added count)) }
-    ensures not_usage { result ≡ Status.Usage → ⊥ }
-    ensures not_declaration { (code : Code) (path : List ℕ) → result ≡ Status.Declaration code path → ⊥ }
-    ensures not_system { result ≡ Status.System → ⊥ }
+    ensures ran { (h : Histories) → M.held stores.old ≡ Some h → OfInput (S.left lines.old) (S.left lines.new) (C.readings clock.old)
+        (λ i rest r. Ran (Rose (S.faults lines.old) (S.faults lines.new)) (Rose (M.faults stores.old) (M.faults stores.new)) ⊥ sys.now i rest r h (M.held stores.new) (T.written out.old) (T.written out.new) result) }
+    ensures begun { sorted result ≡ Some unbegun → ⊥ }
     ensures bound { IfSeen result (TakesLines (S.left lines.old) (S.left lines.new)) }
     ensures input { result ≡ Status.Input → Rose (S.faults lines.old) (S.faults lines.new) }
     ensures sink { result ≡ Status.Sink → Rose (T.faults out.old) (T.faults out.new) }
     ensures recorder { result ≡ Status.Recorder → Rose (M.faults stores.old) (M.faults stores.new) }
-    ensures built { OfRun result (λ end. IfTold (M.held stores.old) (IsBuilt sys.now)) }
+    ensures built { sorted result ≡ Some itself → IfTold (M.held stores.old) (IsBuilt sys.now) }
     ensures not_built { result ≡ Status.NotBuilt → IfTold (M.held stores.old) (IsNotBuilt sys.now) }
     ensures not_built_stores { result ≡ Status.NotBuilt → IsLeft (M.held stores.old) (M.held stores.new) }
     ensures not_built_line { result ≡ Status.NotBuilt → Appends (T.written out.old) (T.written out.new) (as_line (text_of_end End.NotBuilt)) }
@@ -202,6 +181,24 @@ fn load_end(fault: LoadFault) -> End
     }
 }
 
+// Ends a run whose words ask for no system.
+fn end_usage<T: Sink>(alloc: Global, out: &mut T) -> Status
+    ensures told { Writes End.Usage (T.written out.old) (T.written out.new) (ended result) }
+    ensures ends { (result ≡ Status.Usage) ⊎ (result ≡ Status.Sink) }
+    ensures sink { result ≡ Status.Sink → Rose (T.faults out.old) (T.faults out.new) }
+{
+    finish(alloc, out, End::Usage)
+}
+
+// Ends a run whose system couldn't be loaded.
+fn end_unloaded<T: Sink>(alloc: Global, out: &mut T, fault: LoadFault) -> Status
+    ensures told { Writes (end_of_load fault) (T.written out.old) (T.written out.new) (ended result) }
+    ensures ends { (result ≡ status_of_load fault) ⊎ ((result ≡ Status.Sink) ⊎ (result ≡ Status.Memory)) }
+    ensures sink { result ≡ Status.Sink → Rose (T.faults out.old) (T.faults out.new) }
+{
+    finish(alloc, out, load_end(fault))
+}
+
 /// Runs a system on one thread over the lines of a source: all leaders are drained first, each line is
 /// answered on the sink before the next is read, after an accepted one its followers process what it
 /// added, and the end line tells how the run ended. The words are those after the program's name: `run`
@@ -215,32 +212,16 @@ pub fn evsys_single<D: Document, S: Source, T: Sink, M: Stores, C: Clock>(
     stores: &mut M,
     clock: &mut C,
 ) -> Status
-    // What the run records and writes, and how it ends, is that of the plain run on one thread.
-    ensures ran { WhereDeclared (D.documents system.old) words.now (S.left lines.old) (C.readings clock.old) (M.held stores.old)
-        (λ sys i r h. OfRun result (λ end. Ran sys i r h (M.held stores.new) (T.written out.old) (T.written out.new) (as_line (text_of_end end)) end)) }
-
-    // Where it is cut short, by want of memory or a fault, its first steps were made (none of a run that this stage doesn't make), and the bytes are theirs with the end line.
-    ensures cut_short { WhereDeclared (D.documents system.old) words.now (S.left lines.old) (C.readings clock.old) (M.held stores.old)
-        (λ sys i r h. OfCut result (λ end. RanInPart sys i r h (M.held stores.new) (T.written out.old) (T.written out.new) (as_line (text_of_end end)))) }
-
-    // Where reading fails, these are all steps of the run of the lines that were taken whole.
-    ensures read_lines { result ≡ Status.Input → WhereDeclared (D.documents system.old) words.now (S.left lines.old) (C.readings clock.old) (M.held stores.old)
-        (λ sys i r h. (x : RanInPart sys i r h (M.held stores.new) (T.written out.old) (T.written out.new) (as_line (text_of_end End.Input))) × ReadTo (terms_of sys) i r h (S.left lines.new) x.done) }
-
-    // Where the sink fails, its first steps were made, and a front of the next text or of the end line was written besides.
-    ensures cut_text { result ≡ Status.Sink → WhereDeclared (D.documents system.old) words.now (S.left lines.old) (C.readings clock.old) (M.held stores.old)
-        (λ sys i r h. RanIntoText (Rose (S.faults lines.old) (S.faults lines.new)) (Rose (M.faults stores.old) (M.faults stores.new)) (Rose (D.faults system.old) (D.faults system.new)) sys i r h (M.held stores.new) (T.written out.old) (T.written out.new) ⊎ (IsNotBuilt sys h × (M.held stores.new ≡ Some h) × AppendsFront (T.written out.old) (T.written out.new) (as_line (text_of_end End.NotBuilt)))) }
+    // There are an input, what is left of it and readings, those that are told where they are told, of which all this holds.
+    // What the run records and writes, and how it ends, is that of the plain run on one thread: of its first steps, all where it came to an end of its
+    // own, with the end line after them, or after a failed sink a front of what would have come next. What is held is consistent over the openings, the
+    // bytes are a session over it, and where it ended well each follower has reached its leaders, and all lines were answered and are counted.
+    ensures ran { WhereDeclared (D.documents system.old) words.now (M.held stores.old) (λ sys h. OfInput (S.left lines.old) (S.left lines.new) (C.readings clock.old)
+        (λ i rest r. Ran (Rose (S.faults lines.old) (S.faults lines.new)) (Rose (M.faults stores.old) (M.faults stores.new)) (Rose (D.faults system.old) (D.faults system.new)) sys i rest r h (M.held stores.new) (T.written out.old) (T.written out.new) result)) }
 
     // At every status the histories are consistent over the opening ones: each added recording is what its cause decides over
     // those before it, each notification is recorded once and in order, and no two recordings cause each other.
-    ensures consistent { WhereDeclared (D.documents system.old) words.now (S.left lines.old) (C.readings clock.old) (M.held stores.old) (λ sys i r h. LeavesConsistent sys h (M.held stores.new)) }
-
-    // At every status of a run the written bytes are a session over these histories, and then the end line.
-    ensures session { WhereDeclared (D.documents system.old) words.now (S.left lines.old) (C.readings clock.old) (M.held stores.old)
-        (λ sys i r h. IfRun result (IsTied sys (code_of result) i r h (M.held stores.new) (T.written out.old) (T.written out.new) result)) }
-
-    // Status 0: every follower has reached its leaders' last notifications, and all lines were answered and are counted.
-    ensures reached { WhereDeclared (D.documents system.old) words.now (S.left lines.old) (C.readings clock.old) (M.held stores.old) (λ sys i r h. IfOkStatus result (λ added count. IsDone sys i h (M.held stores.new) added count)) }
+    ensures consistent { WhereDeclared (D.documents system.old) words.now (M.held stores.old) (λ sys h. LeavesConsistent sys h (M.held stores.new)) }
 
     // Of any system, over any opening contents, clock readings and lines there is exactly one plain run.
     ensures one_run { (sys : SystemOf) (openings : Histories) (readings : Readings) (lines : List Line) → HasOneRun (rules_of sys) limits openings (start (rules_of sys) openings readings lines) }
@@ -263,12 +244,12 @@ pub fn evsys_single<D: Document, S: Source, T: Sink, M: Stores, C: Clock>(
     ensures not_run_stores { IsNotAsked (D.documents system.old) words.now → stores.new ≡ stores.old }
     ensures not_run_lines { IsNotAsked (D.documents system.old) words.now → lines.new ≡ lines.old }
     ensures not_run_line { IsNotAsked (D.documents system.old) words.now → result ≡ Status.Memory → Appends (T.written out.old) (T.written out.new) (as_line (text_of_end End.Memory)) }
-    ensures not_run_front { IsNotAsked (D.documents system.old) words.now → result ≡ Status.Sink → (e : EndOf) × IsEarlyEnd e × AppendsFront (T.written out.old) (T.written out.new) (as_line (text_of_end e)) }
+    ensures not_run_front { IsNotAsked (D.documents system.old) words.now → result ≡ Status.Sink → (e : EndOf) × ((sort_of e ≡ unbegun) ⊎ (e ≡ End.Memory)) × AppendsFront (T.written out.old) (T.written out.new) (as_line (text_of_end e)) }
 
     // At the statuses 2, 3 and 4 nothing else is touched, and the end line is written.
-    ensures early_stores { IsEarly result → stores.new ≡ stores.old }
-    ensures early_lines { IsEarly result → lines.new ≡ lines.old }
-    ensures early_line { OfEarly result (λ end. Appends (T.written out.old) (T.written out.new) (as_line (text_of_end end))) }
+    ensures early_stores { sorted result ≡ Some unbegun → stores.new ≡ stores.old }
+    ensures early_lines { sorted result ≡ Some unbegun → lines.new ≡ lines.old }
+    ensures early_line { (end : EndOf) → ended result ≡ Some end → sort_of end ≡ unbegun → Appends (T.written out.old) (T.written out.new) (as_line (text_of_end end)) }
 
     // Statuses 4, 5, 6 and 7: only where that object has failed in this call.
     ensures system { result ≡ Status.System → Rose (D.faults system.old) (D.faults system.new) }
@@ -280,7 +261,7 @@ pub fn evsys_single<D: Document, S: Source, T: Sink, M: Stores, C: Clock>(
     ensures lines_bound { IfSeen result (TakesLines (S.left lines.old) (S.left lines.new)) }
 
     // Status 15: exactly where this stage doesn't run the system, or an opened store holds a recording. The stores stay so.
-    ensures built { (sys : SystemOf) → declares (D.documents system.old) words.now ≡ Some (Ok sys) → OfRun result (λ end. IfTold (M.held stores.old) (IsBuilt sys)) }
+    ensures built { (sys : SystemOf) → declares (D.documents system.old) words.now ≡ Some (Ok sys) → sorted result ≡ Some itself → IfTold (M.held stores.old) (IsBuilt sys) }
     ensures not_built { (sys : SystemOf) → declares (D.documents system.old) words.now ≡ Some (Ok sys) → result ≡ Status.NotBuilt → IfTold (M.held stores.old) (IsNotBuilt sys) }
     ensures not_built_stores { result ≡ Status.NotBuilt → IsLeft (M.held stores.old) (M.held stores.new) }
     ensures not_built_line { result ≡ Status.NotBuilt → Appends (T.written out.old) (T.written out.new) (as_line (text_of_end End.NotBuilt)) }
@@ -292,10 +273,10 @@ pub fn evsys_single<D: Document, S: Source, T: Sink, M: Stores, C: Clock>(
     ensures same_snapshots { IsLeft (M.snapshots stores.old) (M.snapshots stores.new) }
 {
     let Some(name) = system_word(words) else {
-        return finish(alloc, out, End::Usage);
+        return end_usage(alloc, out);
     };
     match load(alloc, system, name) {
         Ok(sys) => run_to_end(alloc, &sys, lines, out, stores, clock),
-        Err(fault) => finish(alloc, out, load_end(fault)),
+        Err(fault) => end_unloaded(alloc, out, fault),
     }
 }

@@ -4,39 +4,33 @@ use Rattle.es_process.proofs.HoldsLemmas.{held-histories}
 use Rattle.es_single.specs.Limits.{limits}
 use Rattle.es_single.specs.Runs.{AreEmpty, state_of}
 use Rattle.es_single.proofs.TakenLemmas.{took_nothing}
-use Rattle.es_top.proofs.TopLemmas.{part_none, empty_runs, pair_apps, found_empty, found_occupied, own_result}
+use Rattle.es_top.proofs.TopLemmas.{made_none, of_input, of_then, run_stands, running_result, running_ends, pair_apps, found_empty, found_occupied}
 use Rattle.es_top.proofs.top.run_opened.Goals as goal
 
-pub returns-in-Err-Failed-clause-runs : goal.returns-in-Err-Failed-clause-runs
-returns-in-Err-Failed-clause-runs g c = λ i openings r input held.
-    part_none c.args.sys.now openings r i _ _ _ (held-histories _ _ openings limits _ _ (state_of openings r) (c.is_occupied.ensures.same openings limits _ (state_of openings r) held)) refl
+pub returns-in-Err-Failed-clause-stands : goal.returns-in-Err-Failed-clause-stands
+returns-in-Err-Failed-clause-stands g c = of_input _ _ _ (λ i r h held.
+    (made_none c.args.sys.now i r h _ _ _ (held-histories _ _ h limits _ _ (state_of h r) (c.is_occupied.ensures.same.holds h limits _ (state_of h r) held)) refl, λ is. tt))
 
-pub returns-in-Err-NoMemory-clause-runs : goal.returns-in-Err-NoMemory-clause-runs
-returns-in-Err-NoMemory-clause-runs g c = λ i openings r input held.
-    part_none c.args.sys.now openings r i _ _ _ (held-histories _ _ openings limits _ _ (state_of openings r) (c.is_occupied.ensures.same openings limits _ (state_of openings r) held)) refl
+pub returns-in-Err-NoMemory-clause-stands : goal.returns-in-Err-NoMemory-clause-stands
+returns-in-Err-NoMemory-clause-stands g c = of_input _ _ _ (λ i r h held.
+    (made_none c.args.sys.now i r h _ _ _ (held-histories _ _ h limits _ _ (state_of h r) (c.is_occupied.ensures.same.holds h limits _ (state_of h r) held)) refl, λ is. tt))
 
-pub returns-then-occupied-clause-runs : goal.returns-then-occupied-clause-runs
-returns-then-occupied-clause-runs g c = λ i openings r input held. record {
-  still = held-histories _ _ openings limits _ _ (state_of openings r) (c.is_occupied.ensures.same openings limits _ (state_of openings r) held);
-  unwritten = refl;
-}
+pub returns-then-occupied-clause-stands : goal.returns-then-occupied-clause-stands
+returns-then-occupied-clause-stands g c = of_input _ _ _ (λ i r h held. (
+  made_none c.args.sys.now i r h _ _ _ (held-histories _ _ h limits _ _ (state_of h r) (c.is_occupied.ensures.same.holds h limits _ (state_of h r) held)) refl,
+  (inr (found_occupied (app_names c.args.sys.now) _ h _ (pair_apps c.args.sys.now _ c.args.pair.now c.requires.pair).named c.if-occupied.true ((c.in-Ok.ensures {u = tt}).told h limits _ (state_of h r) held)), refl),
+))
 
-pub returns-then-occupied-clause-occupied : goal.returns-then-occupied-clause-occupied
-returns-then-occupied-clause-occupied g c = λ openings r held is.
-    found_occupied (app_names c.args.sys.now) _ openings _ (pair_apps c.args.sys.now _ c.args.pair.now c.requires.pair).named c.if-occupied.true ((c.in-Ok.ensures {u = tt}).told openings limits _ (state_of openings r) held)
+pub returns-clause-stands : goal.returns-clause-stands
+returns-clause-stands g c = of_then c.run.ensures.traced (λ i rest r runs h held.
+    let empty : AreEmpty (app_names c.args.sys.now) h = found_empty (app_names c.args.sys.now) _ h _ (pair_apps c.args.sys.now _ c.args.pair.now c.requires.pair).named c.if-occupied.false ((c.in-Ok.ensures {u = tt}).told h limits _ (state_of h r) held) in
+    run_stands c.args.sys.now h r i _ _ _ c.requires.built empty rest c.run.result (runs h empty (c.is_occupied.ensures.same.holds h limits _ (state_of h r) held)))
 
-pub returns-then-occupied-clause-still : goal.returns-then-occupied-clause-still
-returns-then-occupied-clause-still g c = λ openings r held is. held-histories _ _ openings limits _ _ (state_of openings r) (c.is_occupied.ensures.same openings limits _ (state_of openings r) held)
+pub returns-clause-of_system : goal.returns-clause-of_system
+returns-clause-of_system g c = running_result c.run.result c.run.ensures.running
 
-pub returns-clause-runs : goal.returns-clause-runs
-returns-clause-runs g c = λ i openings r input held.
-    let empty : AreEmpty (app_names c.args.sys.now) openings = found_empty (app_names c.args.sys.now) _ openings _ (pair_apps c.args.sys.now _ c.args.pair.now c.requires.pair).named c.if-occupied.false ((c.in-Ok.ensures {u = tt}).told openings limits _ (state_of openings r) held) in
-    empty_runs c.args.sys.now openings r i _ _ _ empty _ c.run.result (c.run.ensures.runs i openings r input empty (c.is_occupied.ensures.same openings limits _ (state_of openings r) held))
-
-pub returns-clause-empty : goal.returns-clause-empty
-returns-clause-empty g c = λ openings r held.
-    let empty : AreEmpty (app_names c.args.sys.now) openings = found_empty (app_names c.args.sys.now) _ openings _ (pair_apps c.args.sys.now _ c.args.pair.now c.requires.pair).named c.if-occupied.false ((c.in-Ok.ensures {u = tt}).told openings limits _ (state_of openings r) held) in
-    own_result c.run.result (AreEmpty (app_names c.args.sys.now) openings) empty
+pub returns-clause-silent : goal.returns-clause-silent
+returns-clause-silent g c = running_ends c.run.result c.run.ensures.running
 
 pub returns-in-Err-Failed-clause-bound : goal.returns-in-Err-Failed-clause-bound
 returns-in-Err-Failed-clause-bound g c = inr (took_nothing (g.S.Source.left c.args.lines.now) _ refl)

@@ -7,10 +7,10 @@ use Rattle.es_process.specs.declared.application.Application.{Application}
 use Rattle.es_process.specs.Standing.{Holds, HoldHistories, names_in}
 use Rattle.es_process.specs.SystemRules.{app_names}
 use Rattle.es_single.specs.Limits.{limits}
-use Rattle.es_single.specs.Runs.{AreEmpty, state_of}
+use Rattle.es_single.specs.Runs.{state_of}
 use Rattle.es_single.proofs.TakenLemmas.{took_nothing}
-use Rattle.es_top.specs.Opened.{IsOccupied, AreFresh, SomeFailed, TellEach}
-use Rattle.es_top.proofs.TopLemmas.{any, pair_apps, ran_by, ran_none, own_told, if_told, left_told, left_is, Closable, closable, in_again, some_failed, rose_later, told_still, written_back}
+use Rattle.es_top.specs.Opened.{AreFresh, SomeFailed, TellEach}
+use Rattle.es_top.proofs.TopLemmas.{made_none, of_input, of_then, pair_apps, stands_held, left_told, left_is, Closable, closable, in_again, some_failed, rose_later, told_still, written_back}
 use Rattle.es_top.proofs.top.run_pair.Given as given
 use Rattle.es_top.proofs.top.run_pair.Goals as goal
 
@@ -25,7 +25,7 @@ items_are : (g : given.Over) (c : goal.After-close_all g) → closing g c ≡ c.
 items_are g c = written_back c.in-Ok.apps.len c.run_opened-result.new.apps c.as_mut_slice.result.now c.in-Ok.apps.items c.run_opened-result.auto.apps c.as_mut_slice.ensures.value c.in-Ok.apps.ok.0
 
 names_are : (g : given.Over) (c : goal.After-close_all g) → names_in (closing g c) ≡ app_names c.args.sys.now
-names_are g c = ap (λ (xs : Apps g). names_in xs) (items_are g c) ∙ c.run_opened-result.ensures.same_names ∙ ap (λ (xs : Apps g). names_in xs) c.as_mut_slice.ensures.value ∙ (c.in-Ok.ensures {u = tt}).named
+names_are g c = ap (λ (xs : Apps g). names_in xs) (items_are g c) ∙ c.run_opened-result.ensures.same.names ∙ ap (λ (xs : Apps g). names_in xs) c.as_mut_slice.ensures.value ∙ (c.in-Ok.ensures {u = tt}).named
 
 closed_so : (g : given.Over) (c : goal.After-close_all g) (h k : Histories) → g.M.Stores.held c.args.stores.now ≡ Some h → HoldHistories g.M.R.AggregateRecorder.history h c.run_opened-result.new.apps k → g.M.Stores.held c.close_all.new.stores ≡ Some k
 closed_so g c h k told held =
@@ -41,7 +41,7 @@ snapshots_so g c q told =
     let x : Closable (names_in (closing g c)) (g.M.Stores.out c.open_all.new.stores) q (g.M.Stores.snapshots c.open_all.new.stores) =
     closable (app_names c.args.sys.now) (names_in (closing g c)) (g.M.Stores.out c.args.stores.now) (g.M.Stores.out c.open_all.new.stores) q (g.M.Stores.snapshots c.open_all.new.stores) (names_are g c) (pair_apps c.args.sys.now (app_names c.args.sys.now) c.args.pair.now c.requires.pair).distinct open_is.out (open_is.elsewhere_snapshots q told) in
     let lent : TellEach g.M.R.AggregateRecorder.snapshots q c.as_mut_slice.result.now = subst (λ xs. TellEach g.M.R.AggregateRecorder.snapshots q xs) (sym c.as_mut_slice.ensures.value) (open_is.opened_snapshots q told) in
-    let tells : TellEach g.M.R.AggregateRecorder.snapshots q c.run_opened-result.new.apps = told_still g.M.R.AggregateRecorder.snapshots q c.as_mut_slice.result.now c.run_opened-result.new.apps c.run_opened-result.ensures.same_names c.run_opened-result.ensures.same_snapshots lent in
+    let tells : TellEach g.M.R.AggregateRecorder.snapshots q c.run_opened-result.new.apps = told_still g.M.R.AggregateRecorder.snapshots q c.as_mut_slice.result.now c.run_opened-result.new.apps c.run_opened-result.ensures.same.names c.run_opened-result.ensures.same.kept lent in
     c.close_all.ensures.closed_snapshots q q x.distinct x.all_out x.elsewhere (subst (λ xs. TellEach g.M.R.AggregateRecorder.snapshots q xs) (sym (items_are g c)) tells) (λ n other. refl)
 
 -- what was opened, as it was lent
@@ -49,18 +49,9 @@ opened_so : (g : given.Over) (c : goal.After-close_all g) (readings : Option Rea
 opened_so g c readings r h clock told =
     subst (λ xs. Holds g.M.R.AggregateRecorder.history g.M.R.AggregateRecorder.capacity h limits xs readings (state_of h r)) (sym c.as_mut_slice.ensures.value) ((c.in-Ok.ensures {u = tt}).opened readings r h clock told)
 
-pub returns-in-Ok-clause-ran : goal.returns-in-Ok-clause-ran
-returns-in-Ok-clause-ran g c = λ i r h input readings told.
-    ran_by c.args.sys.now i r h _ _ _ _ _ c.requires.built (λ k held. closed_so g c h k told held) c.run_opened-result.result (c.run_opened-result.ensures.runs i h r input (opened_so g c _ r h readings told))
-
-pub returns-in-Ok-clause-empty : goal.returns-in-Ok-clause-empty
-returns-in-Ok-clause-empty g c = own_told (g.M.Stores.held c.args.stores.now) (AreEmpty (app_names c.args.sys.now)) c.run_opened-result.result (λ h told. c.run_opened-result.ensures.empty h any (opened_so g c (Some any) any h refl told))
-
-pub returns-in-Ok-clause-occupied : goal.returns-in-Ok-clause-occupied
-returns-in-Ok-clause-occupied g c = λ is. if_told (g.M.Stores.held c.args.stores.now) (IsOccupied (app_names c.args.sys.now)) (λ h told. c.run_opened-result.ensures.occupied h any (opened_so g c (Some any) any h refl told) is)
-
-pub returns-in-Ok-clause-still : goal.returns-in-Ok-clause-still
-returns-in-Ok-clause-still g c = λ is. left_told (g.M.Stores.held c.args.stores.now) _ (λ h told. closed_so g c h h told (c.run_opened-result.ensures.still h any (opened_so g c (Some any) any h refl told) is))
+pub returns-in-Ok-clause-stands : goal.returns-in-Ok-clause-stands
+returns-in-Ok-clause-stands g c = of_then c.run_opened-result.ensures.stands (λ i rest r stands h told.
+    stands_held c.args.sys.now i rest r h _ _ _ _ (λ k held. closed_so g c h k told held) c.run_opened-result.result (stands h (opened_so g c (Some r) r h refl told)))
 
 pub returns-in-Ok-clause-same_snapshots : goal.returns-in-Ok-clause-same_snapshots
 returns-in-Ok-clause-same_snapshots g c = left_told (g.M.Stores.snapshots c.args.stores.now) _ (snapshots_so g c)
@@ -77,11 +68,11 @@ returns-in-Ok-clause-recorder g c = λ is.
     subst (λ xs. SomeFailed g.M.R.AggregateRecorder.faults xs) (sym (items_are g c)) (some_failed g.M.R.AggregateRecorder.faults c.as_mut_slice.result.now c.run_opened-result.new.apps fresh (c.run_opened-result.ensures.recorder is)) in
     rose_later (g.M.Stores.faults c.args.stores.now) (g.M.Stores.faults c.open_all.new.stores) (g.M.Stores.faults c.close_all.new.stores) c.open_all.ensures.cause.later (c.close_all.ensures.risen failed)
 
-pub returns-in-Err-Failed-clause-ran : goal.returns-in-Err-Failed-clause-ran
-returns-in-Err-Failed-clause-ran g c = λ i r h input readings told. ran_none c.args.sys.now i r h _ _ _ (left_is h (g.M.Stores.held c.args.stores.now) _ told (c.in-Err-Failed.ensures {u = tt}).refused) refl
+pub returns-in-Err-Failed-clause-stands : goal.returns-in-Err-Failed-clause-stands
+returns-in-Err-Failed-clause-stands g c = of_input _ _ _ (λ i r h told. (made_none c.args.sys.now i r h _ _ _ (left_is h (g.M.Stores.held c.args.stores.now) _ told (c.in-Err-Failed.ensures {u = tt}).refused) refl, λ is. tt))
 
-pub returns-in-Err-NoMemory-clause-ran : goal.returns-in-Err-NoMemory-clause-ran
-returns-in-Err-NoMemory-clause-ran g c = λ i r h input readings told. ran_none c.args.sys.now i r h _ _ _ (left_is h (g.M.Stores.held c.args.stores.now) _ told (c.in-Err-NoMemory.ensures {u = tt}).refused) refl
+pub returns-in-Err-NoMemory-clause-stands : goal.returns-in-Err-NoMemory-clause-stands
+returns-in-Err-NoMemory-clause-stands g c = of_input _ _ _ (λ i r h told. (made_none c.args.sys.now i r h _ _ _ (left_is h (g.M.Stores.held c.args.stores.now) _ told (c.in-Err-NoMemory.ensures {u = tt}).refused) refl, λ is. tt))
 
 pub returns-in-Err-Failed-clause-bound : goal.returns-in-Err-Failed-clause-bound
 returns-in-Err-Failed-clause-bound g c = inr (took_nothing (g.S.Source.left c.args.lines.now) _ refl)

@@ -1,71 +1,61 @@
-use Rattle.std.proofs.Common.{◌≡◌, ◌∙◌, ℕ, List, Some, Ok, refl, sym, ap, subst}
+use Rattle.std.proofs.Common.{◌≡◌, ◌∙◌, Ok, Some, ap}
 use Rattle.es_model.specs.Causes.{Rose}
 use Rattle.es_model.specs.History.{Histories}
-use Rattle.es_io.specs.Readings.{Readings}
+use Rattle.es_lines.specs.declared.ends.End.{End}
 use Rattle.es_lines.specs.declared.ends.End.TheVariants as end
-use Rattle.es_top.specs.Ends.{status_of}
+use Rattle.es_single.specs.Traced.{OfInput}
+use Rattle.es_top.specs.Ends.{ended, sorted, unbegun}
 use Rattle.es_top.specs.Opened.{IsBuilt, IsNotBuilt}
-use Rattle.es_top.specs.Ran.{IfOwn}
-use Rattle.es_top.specs.Top.{IfTold}
-use Rattle.es_top.proofs.EndLemmas.{Tops, tops_end, tops_text, which_end, line_of_end, seen}
+use Rattle.es_top.specs.Top.{Ran}
+use Rattle.es_top.proofs.EndLemmas.{ran_built, ran_not_built, ran_stood, ran_text, of_sort, same_end, line_of_end, seen}
+use Rattle.es_top.proofs.TopLemmas.{if_told, left_told, of_then}
 use Rattle.es_top.proofs.top.run_to_end.Given as given
 use Rattle.es_top.proofs.top.run_to_end.Goals as goal
 
+-- the end of the run over the stores is the one that the status tells
+end_is : (g : given.Over) (c : goal.After-finish g) (k : End) → (k ≡ end.Memory → ⊥) → ended c.finish.result ≡ Some k → c.run_system.result ≡ Ok k
+end_is g c k not told = c.in-Ok.is ∙ ap Ok (same_end c.in-Ok.end k c.finish.result (g.T.Sink.written c.run_system.new.out) (g.T.Sink.written c.finish.new.out) not c.finish.ensures.told told)
+
 -- all that is said of a run that came to its end
-ended : (g : given.Over) (c : goal.After-finish g) (i : List ℕ) (r : Readings) (h : Histories) → g.S.Source.left c.args.lines.now ≡ Some i → g.C.Clock.readings c.args.clock.now ≡ Some r → g.M.Stores.held c.args.stores.now ≡ Some h
-    → Tops (Rose (g.S.Source.faults c.args.lines.now) (g.S.Source.faults c.run_system.new.lines)) (Rose (g.M.Stores.faults c.args.stores.now) (g.M.Stores.faults c.run_system.new.stores)) ⊥ c.args.sys.now i r h (g.S.Source.left c.run_system.new.lines) (g.M.Stores.held c.run_system.new.stores) (g.T.Sink.written c.args.out.now) (g.T.Sink.written c.finish.new.out) c.finish.result
-ended g c i r h input readings held =
-    let so = c.in-Ok.ensures {u = tt} in
-    tops_end (Rose (g.S.Source.faults c.args.lines.now) (g.S.Source.faults c.run_system.new.lines)) (Rose (g.M.Stores.faults c.args.stores.now) (g.M.Stores.faults c.run_system.new.stores)) ⊥ c.args.sys.now c.requires i r h (g.S.Source.left c.run_system.new.lines) (g.M.Stores.held c.run_system.new.stores) (g.T.Sink.written c.args.out.now) (g.T.Sink.written c.run_system.new.out) (g.T.Sink.written c.finish.new.out) c.in-Ok.end c.finish.result (record {
-      ends = c.finish.ensures.ends;
-      whole = c.finish.ensures.written;
-      starved = c.finish.ensures.starved;
-      front = c.finish.ensures.front;
-      fixed = c.finish.ensures.fixed;
-      fixed_front = c.finish.ensures.fixed_front;
-    }) so.of_system (so.ran i r h input readings held)
-    (λ is. subst (λ o. IfTold o (IsNotBuilt c.args.sys.now)) held (c.run_system.ensures.not_built (c.in-Ok.is ∙ ap Ok is)))
-    (subst (λ o. IfOwn c.in-Ok.end (IfTold o (IsBuilt c.args.sys.now))) held so.built)
-    (λ is. c.run_system.ensures.input (c.in-Ok.is ∙ ap Ok is)) (λ is. c.run_system.ensures.recorder (c.in-Ok.is ∙ ap Ok is))
+ran_so : (g : given.Over) (c : goal.After-finish g) (h : Histories) → g.M.Stores.held c.args.stores.now ≡ Some h → OfInput (g.S.Source.left c.args.lines.now) (g.S.Source.left c.run_system.new.lines) (g.C.Clock.readings c.args.clock.now)
+    (λ i rest r. Ran (Rose (g.S.Source.faults c.args.lines.now) (g.S.Source.faults c.run_system.new.lines)) (Rose (g.M.Stores.faults c.args.stores.now) (g.M.Stores.faults c.run_system.new.stores)) ⊥ c.args.sys.now i rest r h (g.M.Stores.held c.run_system.new.stores) (g.T.Sink.written c.args.out.now) (g.T.Sink.written c.finish.new.out) c.finish.result)
+ran_so g c h held = of_then (c.in-Ok.ensures {u = tt}).stands (λ i rest r stands.
+    ran_stood (Rose (g.S.Source.faults c.args.lines.now) (g.S.Source.faults c.run_system.new.lines)) (Rose (g.M.Stores.faults c.args.stores.now) (g.M.Stores.faults c.run_system.new.stores)) ⊥ c.args.sys.now c.requires i rest r h (g.M.Stores.held c.run_system.new.stores) (g.T.Sink.written c.args.out.now) (g.T.Sink.written c.run_system.new.out) (g.T.Sink.written c.finish.new.out) c.in-Ok.end c.finish.result
+    (λ is. c.run_system.ensures.input (c.in-Ok.is ∙ ap Ok is)) (λ is. c.run_system.ensures.recorder (c.in-Ok.is ∙ ap Ok is)) c.finish.ensures.told (stands h held))
 
 pub returns-in-Ok-clause-ran : goal.returns-in-Ok-clause-ran
-returns-in-Ok-clause-ran g c = λ i r h input readings held. (ended g c i r h input readings held).ran
+returns-in-Ok-clause-ran g c = ran_so g c
 
-pub returns-in-Ok-clause-cut_short : goal.returns-in-Ok-clause-cut_short
-returns-in-Ok-clause-cut_short g c = λ i r h input readings held. (ended g c i r h input readings held).cut_short
+pub returns-in-Err-clause-ran : goal.returns-in-Err-clause-ran
+returns-in-Err-clause-ran g c = λ h held. of_then (c.in-Err.ensures {u = tt}).stands (λ i rest r stands.
+    let x = stands h held in
+    ran_text (Rose (g.S.Source.faults c.args.lines.now) (g.S.Source.faults c.run_system.new.lines)) (Rose (g.M.Stores.faults c.args.stores.now) (g.M.Stores.faults c.run_system.new.stores)) ⊥ c.args.sys.now c.requires i rest r h (g.M.Stores.held c.run_system.new.stores) (g.T.Sink.written c.args.out.now) (g.T.Sink.written c.run_system.new.out) x.0 x.1 x.2)
 
-pub returns-in-Ok-clause-read_lines : goal.returns-in-Ok-clause-read_lines
-returns-in-Ok-clause-read_lines g c = λ is i r h input readings held. (ended g c i r h input readings held).read_lines is
+pub returns-in-Ok-clause-begun : goal.returns-in-Ok-clause-begun
+returns-in-Ok-clause-begun g c = λ is. (c.in-Ok.ensures {u = tt}).of_system (of_sort unbegun c.in-Ok.end c.finish.result (g.T.Sink.written c.run_system.new.out) (g.T.Sink.written c.finish.new.out) (λ same. absurd (cc same)) c.finish.ensures.told is).1
 
-pub returns-in-Ok-clause-cut_text : goal.returns-in-Ok-clause-cut_text
-returns-in-Ok-clause-cut_text g c = λ is i r h input readings held. (ended g c i r h input readings held).cut_text is
+pub returns-in-Ok-clause-built : goal.returns-in-Ok-clause-built
+returns-in-Ok-clause-built g c = λ is. if_told (g.M.Stores.held c.args.stores.now) (IsBuilt c.args.sys.now) (λ h held.
+    let x = ran_so g c h held in ran_built (Rose (g.S.Source.faults c.args.lines.now) (g.S.Source.faults c.run_system.new.lines)) (Rose (g.M.Stores.faults c.args.stores.now) (g.M.Stores.faults c.run_system.new.stores)) ⊥ c.args.sys.now x.input x.rest x.readings h (g.M.Stores.held c.run_system.new.stores) (g.T.Sink.written c.args.out.now) (g.T.Sink.written c.finish.new.out) c.finish.result x.holds is)
 
-pub returns-in-Ok-clause-consistent : goal.returns-in-Ok-clause-consistent
-returns-in-Ok-clause-consistent g c = λ i r h input readings held. (ended g c i r h input readings held).consistent
+pub returns-in-Ok-clause-not_built : goal.returns-in-Ok-clause-not_built
+returns-in-Ok-clause-not_built g c = λ is. if_told (g.M.Stores.held c.args.stores.now) (IsNotBuilt c.args.sys.now) (λ h held.
+    let x = ran_so g c h held in (ran_not_built (Rose (g.S.Source.faults c.args.lines.now) (g.S.Source.faults c.run_system.new.lines)) (Rose (g.M.Stores.faults c.args.stores.now) (g.M.Stores.faults c.run_system.new.stores)) ⊥ c.args.sys.now x.input x.rest x.readings h (g.M.Stores.held c.run_system.new.stores) (g.T.Sink.written c.args.out.now) (g.T.Sink.written c.finish.new.out) c.finish.result x.holds (ap sorted is)).0)
 
-pub returns-in-Ok-clause-session : goal.returns-in-Ok-clause-session
-returns-in-Ok-clause-session g c = λ i r h input readings held. (ended g c i r h input readings held).session
-
-pub returns-in-Ok-clause-reached : goal.returns-in-Ok-clause-reached
-returns-in-Ok-clause-reached g c = λ i r h input readings held. (ended g c i r h input readings held).reached
+pub returns-in-Ok-clause-not_built_stores : goal.returns-in-Ok-clause-not_built_stores
+returns-in-Ok-clause-not_built_stores g c = λ is. left_told (g.M.Stores.held c.args.stores.now) (g.M.Stores.held c.run_system.new.stores) (λ h held.
+    let x = ran_so g c h held in (ran_not_built (Rose (g.S.Source.faults c.args.lines.now) (g.S.Source.faults c.run_system.new.lines)) (Rose (g.M.Stores.faults c.args.stores.now) (g.M.Stores.faults c.run_system.new.stores)) ⊥ c.args.sys.now x.input x.rest x.readings h (g.M.Stores.held c.run_system.new.stores) (g.T.Sink.written c.args.out.now) (g.T.Sink.written c.finish.new.out) c.finish.result x.holds (ap sorted is)).1)
 
 pub returns-in-Ok-clause-not_built_line : goal.returns-in-Ok-clause-not_built_line
-returns-in-Ok-clause-not_built_line g c = λ told.
-    let is : c.in-Ok.end ≡ end.NotBuilt = which_end c.in-Ok.end c.finish.result c.finish.ensures.ends told in
-    line_of_end c.in-Ok.end end.NotBuilt (g.T.Sink.written c.args.out.now) (g.T.Sink.written c.run_system.new.out) (g.T.Sink.written c.finish.new.out) is
-    (c.run_system.ensures.silent (c.in-Ok.is ∙ ap Ok is)) (c.finish.ensures.written (told ∙ sym (ap status_of is)))
+returns-in-Ok-clause-not_built_line g c = λ is.
+    line_of_end c.in-Ok.end end.NotBuilt c.finish.result (g.T.Sink.written c.args.out.now) (g.T.Sink.written c.run_system.new.out) (g.T.Sink.written c.finish.new.out) (same_end c.in-Ok.end end.NotBuilt c.finish.result (g.T.Sink.written c.run_system.new.out) (g.T.Sink.written c.finish.new.out) (λ same. absurd (cc same)) c.finish.ensures.told (ap ended is))
+    (c.run_system.ensures.silent (end_is g c end.NotBuilt (λ same. absurd (cc same)) (ap ended is))) (ap ended is) c.finish.ensures.told
 
-pub returns-in-Err-clause-consistent : goal.returns-in-Err-clause-consistent
-returns-in-Err-clause-consistent g c = λ i r h input readings held.
-    (tops_text (Rose (g.S.Source.faults c.args.lines.now) (g.S.Source.faults c.run_system.new.lines)) (Rose (g.M.Stores.faults c.args.stores.now) (g.M.Stores.faults c.run_system.new.stores)) ⊥ c.args.sys.now c.requires i r h (g.S.Source.left c.run_system.new.lines) _ (g.T.Sink.written c.args.out.now) _ ((c.in-Err.ensures {u = tt}).ran i r h input readings held)).consistent
+pub returns-in-Ok-clause-input : goal.returns-in-Ok-clause-input
+returns-in-Ok-clause-input g c = λ is. c.run_system.ensures.input (end_is g c end.Input (λ same. absurd (cc same)) (ap ended is))
 
-pub returns-in-Err-clause-session : goal.returns-in-Err-clause-session
-returns-in-Err-clause-session g c = λ i r h input readings held.
-    (tops_text (Rose (g.S.Source.faults c.args.lines.now) (g.S.Source.faults c.run_system.new.lines)) (Rose (g.M.Stores.faults c.args.stores.now) (g.M.Stores.faults c.run_system.new.stores)) ⊥ c.args.sys.now c.requires i r h (g.S.Source.left c.run_system.new.lines) _ (g.T.Sink.written c.args.out.now) _ ((c.in-Err.ensures {u = tt}).ran i r h input readings held)).session
-
-pub returns-in-Err-clause-cut_text : goal.returns-in-Err-clause-cut_text
-returns-in-Err-clause-cut_text g c = λ is i r h input readings held.
-    (tops_text (Rose (g.S.Source.faults c.args.lines.now) (g.S.Source.faults c.run_system.new.lines)) (Rose (g.M.Stores.faults c.args.stores.now) (g.M.Stores.faults c.run_system.new.stores)) ⊥ c.args.sys.now c.requires i r h (g.S.Source.left c.run_system.new.lines) _ (g.T.Sink.written c.args.out.now) _ ((c.in-Err.ensures {u = tt}).ran i r h input readings held)).cut_text refl
+pub returns-in-Ok-clause-recorder : goal.returns-in-Ok-clause-recorder
+returns-in-Ok-clause-recorder g c = λ is. c.run_system.ensures.recorder (end_is g c end.Recorder (λ same. absurd (cc same)) (ap ended is))
 
 pub returns-in-Ok-clause-bound : goal.returns-in-Ok-clause-bound
-returns-in-Ok-clause-bound g c = seen c.run_system.result c.in-Ok.end c.finish.result c.in-Ok.is c.finish.ensures.ends c.run_system.ensures.bound
+returns-in-Ok-clause-bound g c = seen c.run_system.result c.in-Ok.end c.finish.result (g.T.Sink.written c.run_system.new.out) (g.T.Sink.written c.finish.new.out) c.in-Ok.is c.finish.ensures.told c.run_system.ensures.bound
