@@ -33,7 +33,7 @@ use Rattle.es_top.specs.declared.status.Status.{Status}
 use Rattle.es_top.specs.declared.status.Status.TheVariants as status
 use Rattle.es_top.specs.Ends.{Sort, itself, stopped, in_lines, unbuilt, unbegun, ended, end_of_load, status_of_load, sort_of, sorted, code_of, IfSeen, IsToldAs, Writes, WritesLine}
 use Rattle.es_top.specs.Opened.{IsBuilt, IsNotBuilt}
-use Rattle.es_top.specs.Ran.{Stands}
+use Rattle.es_top.specs.inner.Ran.{Stands}
 use Rattle.es_top.specs.Top.{Closes, Follows, FollowsBy, IsDone, LeavesConsistent, Made, Ran}
 use Rattle.es_top.proofs.TopLemmas.{made_none}
 

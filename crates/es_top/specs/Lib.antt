@@ -2,6 +2,6 @@ pub mod Declares
 pub mod Ends
 pub mod Loads
 pub mod Opened
-pub mod Ran
 pub mod Top
 pub mod Words
+pub mod inner

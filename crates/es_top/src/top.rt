@@ -23,7 +23,7 @@ ghost use Rattle.es_single.specs.Traced.{OfInput};
 ghost use Rattle.es_top.specs.Declares.{declares, IsNotAsked};
 ghost use Rattle.es_top.specs.Ends.{end_of_load, ended, itself, sort_of, sorted, status_of_load, unbegun, IfSeen, IsStopped, Writes};
 ghost use Rattle.es_top.specs.Opened.{IsNotBuilt, IsBuilt, is_beyond};
-ghost use Rattle.es_top.specs.Ran.{IsOfSystem, Stands};
+ghost use Rattle.es_top.specs.inner.Ran.{IsOfSystem, Stands};
 ghost use Rattle.es_top.specs.Top.{IfTold, IsLeft, LeavesConsistent, Ran, WhereDeclared};
 ghost use Rattle.es_top.specs.Words.{system_in};
 
