@@ -1,0 +1,101 @@
+//! What a case gives: the members of an object as texts, numbers, ids, moments and values.
+
+use anyhow::Context;
+use es_model::{Bytes, Calls, Fields, Moment, Text};
+use es_transcode::{decode_tree, id_of};
+use serde_json::Value;
+use std::alloc::Global;
+use uuid::Uuid;
+
+/// A member that has to be there.
+pub(crate) fn member<'a>(tree: &'a Value, name: &str) -> anyhow::Result<&'a Value> {
+    tree.get(name).context(format_args!("no member {name}"))
+}
+
+pub(crate) fn text<'a>(tree: &'a Value, name: &str) -> anyhow::Result<&'a str> {
+    let text = member(tree, name)?.as_str();
+    text.context(format_args!("{name} is no text"))
+}
+
+pub(crate) fn owned(alloc: Global, tree: &Value, name: &str) -> anyhow::Result<Text> {
+    Ok(Text::from_str(alloc, text(tree, name)?)?)
+}
+
+pub(crate) fn number(tree: &Value, name: &str) -> anyhow::Result<u64> {
+    let number = member(tree, name)?.as_u64();
+    number.context(format_args!("{name} is no number"))
+}
+
+/// A number that may be below 0.
+pub(crate) fn integer(tree: &Value, name: &str) -> anyhow::Result<i64> {
+    let number = member(tree, name)?.as_i64();
+    number.context(format_args!("{name} is no integer"))
+}
+
+pub(crate) fn items<'a>(tree: &'a Value, name: &str) -> anyhow::Result<&'a [Value]> {
+    let items = member(tree, name)?.as_array();
+    Ok(
+        items
+            .context(format_args!("{name} is no array"))?
+            .as_slice(),
+    )
+}
+
+/// Numbers of calls, none where the member is absent.
+pub(crate) fn calls(alloc: Global, tree: &Value, name: &str) -> anyhow::Result<Calls> {
+    let mut calls = Calls::new(alloc);
+    if tree.get(name).is_none() {
+        return Ok(calls);
+    }
+    for item in items(tree, name)?.iter() {
+        calls.push(item.as_u64().context("no number of a call")?)?;
+    }
+    Ok(calls)
+}
+
+/// An id in any of its spellings.
+pub(crate) fn id(tree: &Value, name: &str) -> anyhow::Result<Uuid> {
+    id_of(text(tree, name)?).context(format_args!("{name} is no id"))
+}
+
+pub(crate) fn moment(tree: &Value, name: &str) -> anyhow::Result<Moment> {
+    Moment::new(integer(tree, name)?).context(format_args!("{name} is no moment"))
+}
+
+/// The fields of a record.
+pub(crate) fn fields(alloc: Global, tree: &Value, name: &str) -> anyhow::Result<Fields> {
+    Ok(decode_tree(alloc, member(tree, name)?)?)
+}
+
+// Adds a part of some bytes: a text, or one that stands so often, by itself or around its number.
+fn push_part(alloc: Global, bytes: &mut Bytes, part: &Value) -> anyhow::Result<()> {
+    if let Some(text) = part.as_str() {
+        return Ok(bytes.extend(text.as_bytes())?);
+    }
+    let times = number(part, "times")?;
+    let end = part.get("end").and_then(Value::as_str);
+    let text = text(part, "text")?;
+    for place in 0..times {
+        bytes.extend(text.as_bytes())?;
+        if let Some(end) = end {
+            let number = format!(in alloc; "{place}{end}")?;
+            bytes.extend(number.as_str().as_bytes())?;
+        }
+    }
+    Ok(())
+}
+
+/// Bytes as a text, as parts, or as hexadecimal digits.
+pub(crate) fn bytes(alloc: Global, tree: &Value) -> anyhow::Result<Bytes> {
+    let mut bytes = Bytes::new(alloc);
+    if let Some(text) = tree.as_str() {
+        bytes.extend(text.as_bytes())?;
+    } else if let Some(parts) = tree.as_array() {
+        for part in parts.iter() {
+            push_part(alloc, &mut bytes, part)?;
+        }
+    } else {
+        return Ok(Bytes::from_vec(hex::decode(alloc, text(tree, "hex")?)?));
+    }
+    Ok(bytes)
+}

@@ -1,0 +1,38 @@
+//! Cases of records: the canonical text of one, or its fault.
+
+use crate::{given, told};
+use es_model::Fields;
+use es_transcode::{DecodeFault, decode_record, decode_tree, encode_record, read_tree};
+use serde_json::{Value, json};
+use std::alloc::Global;
+
+// The canonical text of what was read, or the fault.
+fn told_of(alloc: Global, read: Result<Fields, DecodeFault>) -> anyhow::Result<Value> {
+    match read {
+        Ok(fields) => {
+            let text = encode_record(alloc, &fields)?;
+            let text = told::bytes(alloc, text.as_slice())?;
+            Ok(json!(in alloc; {"text": text})?)
+        }
+        Err(fault) => told::fault(alloc, told::of_record(fault)),
+    }
+}
+
+// What is read by way of the tree.
+fn of_tree(alloc: Global, bytes: &[u8]) -> anyhow::Result<Value> {
+    match read_tree(alloc, bytes)? {
+        Some(tree) => told_of(alloc, decode_tree(alloc, &tree)),
+        None => told::fault(alloc, "NotJson"),
+    }
+}
+
+/// The answer of a case, which is the same by way of the tree.
+pub(crate) fn answer(alloc: Global, case: &Value) -> anyhow::Result<Value> {
+    let bytes = given::bytes(alloc, given::member(case, "record")?)?;
+    let answer = told_of(alloc, decode_record(alloc, bytes.as_slice()))?;
+    if answer == of_tree(alloc, bytes.as_slice())? {
+        Ok(answer)
+    } else {
+        Err(anyhow::anyhow!("another answer by way of the tree"))
+    }
+}
