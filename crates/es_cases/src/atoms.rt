@@ -1,10 +1,11 @@
 //! Cases of atoms: the text of a moment, a decimal or an id, and what is read from a text.
 
-use crate::{given, told};
 use anyhow::Context;
 use es_model::{Atom, AtomKind, Decimal, Moment, Text};
+use es_suite::given;
+use es_suite::told::{self, Members};
 use es_transcode::{DatetimeAsIso, DecimalAsStr, Transcoding, UuidAsHex};
-use serde_json::{Value, json};
+use serde_json::Value;
 use std::alloc::Global;
 use uuid::Uuid;
 
@@ -13,7 +14,7 @@ fn moment(alloc: Global, micros: i64) -> anyhow::Result<Value> {
     match Moment::new(micros) {
         Some(moment) => {
             let text = DatetimeAsIso.encode(alloc, &Atom::Moment(moment))?;
-            Ok(json!(in alloc; text.as_str())?)
+            told::text(alloc, text.as_str())
         }
         None => Ok(Value::Null),
     }
@@ -24,7 +25,7 @@ fn decimal(alloc: Global, digits: i64, scale: u8) -> anyhow::Result<Value> {
     match Decimal::new(digits, scale) {
         Some(decimal) => {
             let text = DecimalAsStr.encode(alloc, &Atom::Decimal(decimal))?;
-            Ok(json!(in alloc; text.as_str())?)
+            told::text(alloc, text.as_str())
         }
         None => Ok(Value::Null),
     }
@@ -33,36 +34,44 @@ fn decimal(alloc: Global, digits: i64, scale: u8) -> anyhow::Result<Value> {
 // The text of an id.
 fn id(alloc: Global, id: Uuid) -> anyhow::Result<Value> {
     let text = UuidAsHex.encode(alloc, &Atom::Uuid(id))?;
-    Ok(json!(in alloc; text.as_str())?)
+    told::text(alloc, text.as_str())
 }
 
-// The atom that has a text.
-fn decoded(alloc: Global, kind: &str, text: &str) -> anyhow::Result<Option<Atom>> {
-    let text = Text::from_str(alloc, text)?;
-    match kind {
-        "moment" => Ok(DatetimeAsIso.decode(alloc, &text)?),
-        "decimal" => Ok(DecimalAsStr.decode(alloc, &text)?),
-        "uuid" => Ok(UuidAsHex.decode(alloc, &text)?),
-        _ => Err(anyhow::anyhow!("no such kind")),
+// The number of an atom, or its digits and places, or its id.
+fn told_of(alloc: Global, atom: &Atom) -> anyhow::Result<Value> {
+    match atom {
+        Atom::Moment(moment) => Ok(Value::from(moment.micros())),
+        Atom::Decimal(decimal) => {
+            let mut told = Members::new(alloc);
+            told.put("digits", decimal.digits());
+            told.put("scale", decimal.scale());
+            told.end()
+        }
+        Atom::Uuid(id) => told::id(alloc, *id),
+        _ => Err(anyhow::anyhow!("an atom of another kind")),
     }
 }
 
-// The number or the digits of what is read from a text, if it is an atom's.
-fn read(alloc: Global, kind: &str, text: &str) -> anyhow::Result<Value> {
-    match decoded(alloc, kind, text)? {
-        Some(Atom::Moment(moment)) => Ok(Value::from(moment.micros())),
-        Some(Atom::Decimal(decimal)) => {
-            let (digits, scale) = (decimal.digits(), u64::from(decimal.scale()));
-            Ok(json!(in alloc; [digits, scale])?)
-        }
-        Some(Atom::Uuid(id)) => Ok(json!(in alloc; told::id(alloc, id)?.as_str())?),
-        Some(_) => Err(anyhow::anyhow!("an atom of another kind")),
+// What a transcoding reads from a text, if it is an atom's.
+fn decoded<T: Transcoding>(alloc: Global, transcoding: &T, text: &Text) -> anyhow::Result<Value> {
+    match transcoding.decode(alloc, text)? {
+        Some(atom) => told_of(alloc, &atom),
         None => Ok(Value::Null),
     }
 }
 
-/// The word of a kind of atoms.
-pub(crate) fn word(kind: AtomKind) -> &'static str {
+// What is read from a text by the transcoding of a kind.
+fn read(alloc: Global, kind: &str, text: &Text) -> anyhow::Result<Value> {
+    match kind {
+        "moment" => decoded(alloc, &DatetimeAsIso, text),
+        "decimal" => decoded(alloc, &DecimalAsStr, text),
+        "uuid" => decoded(alloc, &UuidAsHex, text),
+        _ => Err(anyhow::anyhow!("no such kind")),
+    }
+}
+
+// The word of a kind of atoms.
+fn word(kind: AtomKind) -> &'static str {
     match kind {
         AtomKind::Bool => "bool",
         AtomKind::Int => "int",
@@ -73,37 +82,34 @@ pub(crate) fn word(kind: AtomKind) -> &'static str {
     }
 }
 
-// The kind and the name of a transcoding, each beside the other.
-fn transcoding<T: Transcoding>(alloc: Global, transcoding: &T) -> anyhow::Result<Value> {
-    let name = told::bytes(alloc, transcoding.name())?;
-    let kind = word(transcoding.kind());
-    Ok(json!(in alloc; {"kind": kind, "name": name})?)
+// The kind of a transcoding under its name.
+fn put_transcoding<T: Transcoding>(told: &mut Members, transcoding: &T) {
+    if let Ok(name) = str::from_utf8(transcoding.name()) {
+        told.put(name, word(transcoding.kind()));
+    }
 }
 
 fn transcodings(alloc: Global) -> anyhow::Result<Value> {
-    let moment = transcoding(alloc, &DatetimeAsIso)?;
-    let decimal = transcoding(alloc, &DecimalAsStr)?;
-    let id = transcoding(alloc, &UuidAsHex)?;
-    Ok(json!(in alloc; [moment, decimal, id])?)
+    let mut told = Members::new(alloc);
+    put_transcoding(&mut told, &DatetimeAsIso);
+    put_transcoding(&mut told, &DecimalAsStr);
+    put_transcoding(&mut told, &UuidAsHex);
+    told.end()
 }
 
 /// The answer of a case.
 pub(crate) fn answer(alloc: Global, case: &Value) -> anyhow::Result<Value> {
     if let Some(micros) = case.get("moment").and_then(Value::as_i64) {
         moment(alloc, micros)
-    } else if case.get("digits").is_some() {
+    } else if let Some(digits) = case.get("digits").and_then(Value::as_i64) {
         let scale = u8::try_from(given::number(case, "scale")?).ok();
-        decimal(
-            alloc,
-            given::integer(case, "digits")?,
-            scale.context("no scale")?,
-        )
+        decimal(alloc, digits, scale.context("no scale")?)
     } else if case.get("id").is_some() {
         id(alloc, given::id(case, "id")?)
     } else if let Some(micros) = case.get("nearest").and_then(Value::as_i64) {
         Ok(Value::from(Moment::nearest(micros).micros()))
     } else if let Some(kind) = case.get("read").and_then(Value::as_str) {
-        read(alloc, kind, given::text(case, "text")?)
+        read(alloc, kind, &given::owned(alloc, case, "text")?)
     } else {
         transcodings(alloc)
     }

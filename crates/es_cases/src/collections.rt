@@ -1,106 +1,89 @@
 //! Cases of the small collections: names in rising order, lists, bytes, texts, and numbers of calls
 //! that fail.
 
-use crate::{given, told};
 use anyhow::Context;
-use es_model::{Bytes, Counts, Duplicate, Faults, List, Text};
-use serde_json::{Value, json};
+use es_model::{Bytes, Counts, Duplicate, Faults, List};
+use es_suite::given;
+use es_suite::told::{self, Items, Members};
+use serde_json::Value;
 use std::alloc::Global;
 
-// The number of a name, if there is one.
-fn number(found: Option<u64>) -> Value {
-    match found {
-        Some(number) => Value::from(number),
-        None => Value::Null,
-    }
-}
-
-// The answer of a step on names with numbers.
-fn step(alloc: Global, counts: &mut Counts, step: &Value) -> anyhow::Result<Value> {
-    if step.get("put").is_some() {
-        counts.put(
-            given::owned(alloc, step, "put")?,
-            given::number(step, "as")?,
-        )?;
-        Ok(Value::Null)
-    } else if step.get("remove").is_some() {
-        Ok(number(counts.remove(given::text(step, "remove")?)))
+// The answer of a step on names with numbers: the number of a name, if there is one.
+fn step(alloc: Global, counts: &mut Counts, step: &Value) -> anyhow::Result<Option<u64>> {
+    if let Some(number) = step.get("as").and_then(Value::as_u64) {
+        counts.put(given::owned(alloc, step, "put")?, number)?;
+        Ok(None)
+    } else if let Some(name) = step.get("remove").and_then(Value::as_str) {
+        Ok(counts.remove(name))
     } else {
-        Ok(number(counts.get(given::text(step, "get")?).copied()))
+        Ok(counts.get(given::text(step, "get")?).copied())
     }
 }
 
-fn pairs(alloc: Global, counts: &Counts) -> anyhow::Result<Value> {
-    let mut pairs = Vec::new(alloc);
-    for (name, number) in counts.as_slice() {
-        pairs.push(json!(in alloc; [name.as_str(), *number])?)?;
-    }
-    Ok(Value::Array(pairs))
-}
-
-// The answers of steps, and the pairs at the end.
-fn names(alloc: Global, case: &Value) -> anyhow::Result<Value> {
+// The answers of steps, and the names with their numbers at the end, one after the other.
+fn names(alloc: Global, steps: &[Value]) -> anyhow::Result<Value> {
     let mut counts = Counts::new(alloc);
-    let mut answers = Vec::new(alloc);
-    for given in given::items(case, "names")?.iter() {
-        answers.push(step(alloc, &mut counts, given)?)?;
+    let mut answers = Items::new(alloc);
+    for given in steps {
+        answers.put(step(alloc, &mut counts, given)?);
     }
-    let pairs = pairs(alloc, &counts.copy()?)?;
-    let answers = Value::Array(answers);
-    Ok(json!(in alloc; {"answers": answers, "pairs": pairs})?)
+    let copy = counts.copy()?;
+    for (name, number) in copy.as_slice() {
+        answers.put(name.as_str());
+        answers.put(*number);
+    }
+    answers.end()
 }
 
-// Numbers that were pushed, copied, and taken out and in again.
+// Numbers that were pushed, copied, and taken out and in again, and how many they are.
 fn list(alloc: Global, numbers: &[Value]) -> anyhow::Result<Value> {
     let mut list = List::<u64>::new(alloc);
     for number in numbers {
         list.push(number.as_u64().context("no number")?)?;
     }
     let copy = List::from_vec(list.copy()?.into_vec());
-    let mut items = Vec::new(alloc);
+    let mut told = Items::new(alloc);
+    told.put(list.len() as u64);
     for item in copy.as_slice() {
-        items.push(Value::from(*item))?;
+        told.put(*item);
     }
-    let (items, length) = (Value::Array(items), list.len() as u64);
-    Ok(json!(in alloc; {"items": items, "length": length})?)
+    told.end()
 }
 
 // A first byte and more, copied, and taken out and in again.
-fn bytes(alloc: Global, first: u64, more: &Bytes) -> anyhow::Result<Value> {
+fn bytes(alloc: Global, first: u8, more: &Bytes) -> anyhow::Result<Value> {
     let mut bytes = Bytes::new(alloc);
-    bytes.push(u8::try_from(first).ok().context("no byte")?)?;
+    bytes.push(first)?;
     bytes.extend(more.as_slice())?;
     let again = Bytes::from_vec(bytes.copy()?.into_vec());
     let whole = Bytes::from_slice(alloc, again.as_slice())?;
     let digits = hex::encode(alloc, whole.as_slice())?;
-    Ok(json!(in alloc; digits.as_str())?)
+    told::text(alloc, digits.as_str())
 }
 
 // Whether each of so many calls succeeds.
 fn faults(alloc: Global, case: &Value) -> anyhow::Result<Value> {
+    let count = given::number(case, "calls")?;
     let mut faults = Faults::new(given::calls(alloc, case, "failing")?);
-    let mut answers = Vec::new(alloc);
-    for _ in 0..given::number(case, "calls")? {
-        answers.push(Value::Bool(faults.call().is_ok()))?;
+    let mut answers = Items::new(alloc);
+    for _ in 0..count {
+        answers.put(faults.call().is_ok());
     }
-    Ok(Value::Array(answers))
+    answers.end()
 }
 
 /// The answer of a case.
 pub(crate) fn answer(alloc: Global, case: &Value) -> anyhow::Result<Value> {
     if case.get("names").is_some() {
-        names(alloc, case)
+        names(alloc, given::items(case, "names")?)
     } else if case.get("list").is_some() {
         list(alloc, given::items(case, "list")?)
     } else if let Some(first) = case.get("byte").and_then(Value::as_u64) {
-        bytes(
-            alloc,
-            first,
-            &given::bytes(alloc, given::member(case, "more")?)?,
-        )
+        let more = given::bytes(alloc, given::member(case, "more")?)?;
+        bytes(alloc, u8::try_from(first).ok().context("no byte")?, &more)
     } else if case.get("text").is_some() {
         let text = given::owned(alloc, case, "text")?.copy()?;
-        told::bytes(alloc, text.as_str().as_bytes())
+        told::text(alloc, text.as_str())
     } else {
         faults(alloc, case)
     }

@@ -1,123 +1,109 @@
-//! Cases of what is recorded: a copy of a recording, of a notification, and of snapshots as they were put.
+//! Cases of what is recorded: a copy of a recording, of a notification, and of snapshots as they were put,
+//! each told as the list of its parts.
 
 ghost use Rattle.std.specs.Prelude.{◌≡◌, true};
 ghost use Rattle.es_model.specs.Snapshots.{IsSmallSnapshot};
 
-use crate::{given, told};
 use es_model::{
     Cause, Duplicate, Notification, Recording, Snapshot, Snapshots, StoredEvent, StoredEvents,
 };
-use serde_json::{Value, json};
+use es_suite::given;
+use es_suite::told::Items;
+use serde_json::Value;
 use std::alloc::Global;
 
-/// A stored event.
-pub(crate) fn stored(alloc: Global, tree: &Value) -> anyhow::Result<StoredEvent> {
-    let topic = given::owned(alloc, tree, "topic")?;
-    let state = given::bytes(alloc, given::member(tree, "state")?)?;
-    Ok(StoredEvent {
-        originator_id: given::id(tree, "id")?,
-        originator_version: given::number(tree, "version")?,
-        topic,
-        state,
-    })
-}
-
-// A stored event as it is given.
-fn told_event(alloc: Global, event: &StoredEvent) -> anyhow::Result<Value> {
-    let id = told::id(alloc, event.originator_id)?;
-    let state = told::bytes(alloc, event.state.as_slice())?;
-    let (topic, version) = (event.topic.as_str(), event.originator_version);
-    Ok(json!(in alloc; {"id": id.as_str(), "state": state, "topic": topic, "version": version})?)
+// Tells a stored event.
+fn put_event(told: &mut Items, event: &StoredEvent) {
+    told.put_id(event.originator_id);
+    told.put(event.originator_version);
+    told.put(event.topic.as_str());
+    told.put_bytes(event.state.as_slice());
 }
 
 // A command by its text, or a notification by its leader and its id.
 fn cause(alloc: Global, tree: &Value) -> anyhow::Result<Cause> {
-    if tree.get("leader").is_some() {
-        Ok(Cause::Notification {
-            leader: given::owned(alloc, tree, "leader")?,
-            id: given::number(tree, "id")?,
-        })
+    if let Some(id) = tree.get("id").and_then(Value::as_u64) {
+        let leader = given::owned(alloc, tree, "leader")?;
+        Ok(Cause::Notification { leader, id })
     } else {
-        Ok(Cause::Command {
-            text: given::bytes(alloc, given::member(tree, "command")?)?,
-        })
+        let text = given::bytes(alloc, given::member(tree, "command")?)?;
+        Ok(Cause::Command { text })
     }
 }
 
-fn told_cause(alloc: Global, cause: &Cause) -> anyhow::Result<Value> {
+// Tells what caused a recording.
+fn put_cause(told: &mut Items, cause: &Cause) {
     match cause {
-        Cause::Command { text } => {
-            let text = told::bytes(alloc, text.as_slice())?;
-            Ok(json!(in alloc; {"command": text})?)
-        }
+        Cause::Command { text } => told.put_bytes(text.as_slice()),
         Cause::Notification { leader, id } => {
-            Ok(json!(in alloc; {"id": *id, "leader": leader.as_str()})?)
+            told.put(leader.as_str());
+            told.put(*id);
         }
     }
 }
 
-fn recording(alloc: Global, tree: &Value) -> anyhow::Result<Recording> {
-    let cause = cause(alloc, given::member(tree, "cause")?)?;
+fn events(alloc: Global, trees: &[Value]) -> anyhow::Result<StoredEvents> {
     let mut events = StoredEvents::new(alloc);
-    for event in given::items(tree, "events")?.iter() {
-        events.push(stored(alloc, event)?)?;
+    for tree in trees {
+        events.push(given::stored(alloc, tree)?)?;
     }
-    Ok(Recording {
-        cause,
-        at: given::moment(tree, "at")?,
-        events,
-    })
+    Ok(events)
 }
 
-fn told_recording(alloc: Global, recording: &Recording) -> anyhow::Result<Value> {
-    let cause = told_cause(alloc, &recording.cause)?;
-    let mut events = Vec::new(alloc);
-    for event in recording.events.as_slice() {
-        events.push(told_event(alloc, event)?)?;
+// The moment, the cause and the events of the copy of a recording.
+fn recording(alloc: Global, tree: &Value) -> anyhow::Result<Value> {
+    let at = given::moment(tree, "at")?;
+    let cause = cause(alloc, given::member(tree, "cause")?)?;
+    let events = events(alloc, given::items(tree, "events")?)?;
+    let copy = Recording { cause, at, events }.copy()?;
+    let mut told = Items::new(alloc);
+    told.put(copy.at.copy()?.micros());
+    put_cause(&mut told, &copy.cause);
+    for event in copy.events.as_slice() {
+        put_event(&mut told, event);
     }
-    let (at, events) = (recording.at.copy()?.micros(), Value::Array(events));
-    Ok(json!(in alloc; {"at": at, "cause": cause, "events": events})?)
+    told.end()
 }
 
-// A copy of a notification.
+// The id and the event of the copy of a notification.
 fn notification(alloc: Global, tree: &Value) -> anyhow::Result<Value> {
-    let copy = Notification {
-        id: given::number(tree, "number")?,
-        event: stored(alloc, given::member(tree, "event")?)?,
-    }
-    .copy()?;
-    let (number, event) = (copy.id, told_event(alloc, &copy.event)?);
-    Ok(json!(in alloc; {"event": event, "number": number})?)
+    let id = given::number(tree, "number")?;
+    let event = given::stored(alloc, given::member(tree, "event")?)?;
+    let copy = Notification { id, event }.copy()?;
+    let mut told = Items::new(alloc);
+    told.put(copy.id);
+    put_event(&mut told, &copy.event);
+    told.end()
 }
 
 fn snapshot(alloc: Global, tree: &Value) -> anyhow::Result<Snapshot> {
+    let originator_id = given::id(tree, "id")?;
+    let originator_version = given::number(tree, "version")?;
+    let class_version = given::number(tree, "class_version")?;
+    let created_on = given::moment(tree, "created_on")?;
+    let modified_on = given::moment(tree, "modified_on")?;
     let topic = given::owned(alloc, tree, "topic")?;
     let state = given::bytes(alloc, given::member(tree, "state")?)?;
     Ok(Snapshot {
-        originator_id: given::id(tree, "id")?,
-        originator_version: given::number(tree, "version")?,
+        originator_id,
+        originator_version,
         topic,
-        class_version: given::number(tree, "class_version")?,
-        created_on: given::moment(tree, "created_on")?,
-        modified_on: given::moment(tree, "modified_on")?,
+        class_version,
+        created_on,
+        modified_on,
         state,
     })
 }
 
-fn told_snapshot(alloc: Global, snapshot: &Snapshot) -> anyhow::Result<Value> {
-    let id = told::id(alloc, snapshot.originator_id)?;
-    let state = told::bytes(alloc, snapshot.state.as_slice())?;
-    let (version, class_version) = (snapshot.originator_version, snapshot.class_version);
-    let (created, modified) = (snapshot.created_on.micros(), snapshot.modified_on.micros());
-    Ok(json!(in alloc; {
-        "class_version": class_version,
-        "created_on": created,
-        "id": id.as_str(),
-        "modified_on": modified,
-        "state": state,
-        "topic": snapshot.topic.as_str(),
-        "version": version
-    })?)
+// Tells a snapshot.
+fn put_snapshot(told: &mut Items, snapshot: &Snapshot) {
+    told.put_id(snapshot.originator_id);
+    told.put(snapshot.originator_version);
+    told.put(snapshot.topic.as_str());
+    told.put(snapshot.class_version);
+    told.put(snapshot.created_on.micros());
+    told.put(snapshot.modified_on.micros());
+    told.put_bytes(snapshot.state.as_slice());
 }
 
 // Whether the numbers of a snapshot are such as a store has.
@@ -128,7 +114,7 @@ fn is_small(snapshot: &Snapshot) -> bool
 }
 
 // A copy of the snapshots that are there after some were put.
-fn snapshots(alloc: Global, trees: &[Value]) -> anyhow::Result<Value> {
+fn snapshots(alloc: Global, trees: &[Value]) -> anyhow::Result<Snapshots> {
     let mut snapshots = Snapshots::new(alloc);
     for tree in trees {
         let snapshot = snapshot(alloc, tree)?;
@@ -137,21 +123,25 @@ fn snapshots(alloc: Global, trees: &[Value]) -> anyhow::Result<Value> {
         }
         snapshots.put(snapshot)?;
     }
-    let copy = snapshots.copy()?;
-    let mut told = Vec::new(alloc);
-    for snapshot in copy.as_slice() {
-        told.push(told_snapshot(alloc, snapshot)?)?;
+    Ok(snapshots.copy()?)
+}
+
+// Tells snapshots one after the other.
+fn told_of(alloc: Global, snapshots: &Snapshots) -> anyhow::Result<Value> {
+    let mut told = Items::new(alloc);
+    for snapshot in snapshots.as_slice() {
+        put_snapshot(&mut told, snapshot);
     }
-    Ok(Value::Array(told))
+    told.end()
 }
 
 /// The answer of a case.
 pub(crate) fn answer(alloc: Global, case: &Value) -> anyhow::Result<Value> {
     if let Some(tree) = case.get("recording") {
-        told_recording(alloc, &recording(alloc, tree)?.copy()?)
+        recording(alloc, tree)
     } else if let Some(tree) = case.get("notification") {
         notification(alloc, tree)
     } else {
-        snapshots(alloc, given::items(case, "snapshots")?)
+        told_of(alloc, &snapshots(alloc, given::items(case, "snapshots")?)?)
     }
 }

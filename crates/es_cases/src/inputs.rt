@@ -1,9 +1,10 @@
 //! Cases of the lines of an input: those of a source that gives so many bytes a call, or that fails.
 
-use crate::given;
 use es_io::{Lines, LinesFault, MemorySource, Source, Step};
 use es_model::{Bytes, Failed};
-use serde_json::{Value, json};
+use es_suite::given;
+use es_suite::told::{self, Items, Members};
+use serde_json::Value;
 use std::alloc::Global;
 
 // A source that gives at most so many bytes a call.
@@ -38,23 +39,24 @@ impl Source for Pieces {
 
 // A line, or how many bytes a great one has.
 fn of_line(alloc: Global, line: &[u8]) -> anyhow::Result<Value> {
+    let mut told = Members::new(alloc);
     if line.len() > 1000 {
-        let bytes = line.len() as u64;
-        Ok(json!(in alloc; {"bytes": bytes})?)
+        told.put("bytes", line.len() as u64);
     } else {
-        Ok(json!(in alloc; {"line": str::from_utf8(line)?})?)
+        told.put_bytes("line", line);
     }
+    told.end()
 }
 
 // What comes next.
-fn told(alloc: Global, next: Result<Step, LinesFault>) -> anyhow::Result<Value> {
+fn told_of(alloc: Global, next: Result<Step, LinesFault>) -> anyhow::Result<Value> {
     match next {
         Ok(Step::Line(line)) => of_line(alloc, line.as_slice()),
-        Ok(Step::Long) => Ok(json!(in alloc; "long")?),
-        Ok(Step::End) => Ok(json!(in alloc; "end")?),
-        Ok(Step::Over) => Ok(json!(in alloc; "over")?),
-        Err(LinesFault::Read) => Ok(json!(in alloc; "failed")?),
-        Err(LinesFault::NoMemory) => crate::told::no_memory(),
+        Ok(Step::Long) => told::text(alloc, "long"),
+        Ok(Step::End) => told::text(alloc, "end"),
+        Ok(Step::Over) => told::text(alloc, "over"),
+        Err(LinesFault::Read) => told::text(alloc, "failed"),
+        Err(LinesFault::NoMemory) => told::no_memory(),
     }
 }
 
@@ -66,28 +68,27 @@ fn steps<S: Source>(
     count: u64,
 ) -> anyhow::Result<Value> {
     let mut lines = Lines::new(alloc, source, limits.0, limits.1)?;
-    let mut steps = Vec::new(alloc);
+    let mut steps = Items::new(alloc);
     for _ in 0..count {
-        steps.push(told(alloc, lines.next())?)?;
+        steps.put(told_of(alloc, lines.next())?);
     }
     let _source = lines.into_source();
-    Ok(Value::Array(steps))
+    steps.end()
 }
 
 /// The answer of a case.
 pub(crate) fn answer(alloc: Global, case: &Value) -> anyhow::Result<Value> {
-    let bytes = given::bytes(alloc, given::member(case, "input")?)?;
     let limits = (
         given::number(case, "line_limit")?,
         given::number(case, "total_limit")?,
     );
     let count = given::number(case, "steps")?;
-    if case.get("failing").is_some() {
-        let mut source = MemorySource::new(bytes, given::calls(alloc, case, "failing")?);
-        steps(alloc, &mut source, limits, count)
+    let bytes = given::bytes(alloc, given::member(case, "input")?)?;
+    if let Some(most) = case.get("most").and_then(Value::as_u64) {
+        let most = most as usize;
+        steps(alloc, &mut Pieces { bytes, at: 0, most }, limits, count)
     } else {
-        let most = given::number(case, "most")? as usize;
-        let mut source = Pieces { bytes, at: 0, most };
-        steps(alloc, &mut source, limits, count)
+        let failing = given::calls(alloc, case, "failing")?;
+        steps(alloc, &mut MemorySource::new(bytes, failing), limits, count)
     }
 }

@@ -1,41 +1,38 @@
 //! Cases of names: which forms a text has, its halves, the topic of an event, and the words of operators.
 
-use crate::given;
 use es_model::names::{
     NameForm, halves, halves_at_first, has_name_length, is_name, is_spelled, topic_of,
 };
 use es_model::operators::Operator;
-use serde_json::{Value, json};
+use es_suite::given;
+use es_suite::told::{self, Members};
+use serde_json::Value;
 use std::alloc::Global;
 
 // Which forms a text has as a name and by its letters alone, and whether it has the length of one.
 fn forms(alloc: Global, name: &str) -> anyhow::Result<Value> {
-    let (plain, field) = (
-        is_name(NameForm::Plain, name),
-        is_name(NameForm::Field, name),
-    );
-    let (code, class) = (
-        is_name(NameForm::Code, name),
-        is_name(NameForm::Class, name),
-    );
-    let is_lower = is_spelled(NameForm::Plain, name);
-    let is_upper = is_spelled(NameForm::Class, name);
-    let has_length = has_name_length(name);
-    Ok(json!(in alloc; {
-        "forms": {"class": class, "code": code, "field": field, "plain": plain},
-        "length": has_length,
-        "letters": {"lower": is_lower, "upper": is_upper}
-    })?)
+    let mut told = Members::new(alloc);
+    told.put("plain", is_name(NameForm::Plain, name));
+    told.put("field", is_name(NameForm::Field, name));
+    told.put("code", is_name(NameForm::Code, name));
+    told.put("class", is_name(NameForm::Class, name));
+    told.put("lower", is_spelled(NameForm::Plain, name));
+    told.put("upper", is_spelled(NameForm::Class, name));
+    told.put("length", has_name_length(name));
+    told.end()
 }
 
-// The halves of a text at its one point, and at its first one.
+// The halves of a text at its one point, where it has one, and at its first one.
 fn points(alloc: Global, text: &str) -> anyhow::Result<Value> {
-    let only = match halves(text) {
-        Some((before, after)) => json!(in alloc; [before, after])?,
-        None => Value::Null,
-    };
-    let (before, after) = halves_at_first(text);
-    Ok(json!(in alloc; {"first": [before, after], "only": only})?)
+    let mut told = Members::new(alloc);
+    if let Some((before, after)) = halves(text) {
+        told.put("before", before);
+        told.put("after", after);
+    }
+    let (first, rest) = halves_at_first(text);
+    told.put("first", first);
+    told.put("rest", rest);
+    told.end()
 }
 
 // Over how many operands the operator of a word is, none where there is none.
@@ -58,7 +55,6 @@ pub(crate) fn answer(alloc: Global, case: &Value) -> anyhow::Result<Value> {
         Ok(operands(word))
     } else {
         let (class, event) = (given::text(case, "class")?, given::text(case, "event")?);
-        let topic = topic_of(alloc, class, event)?;
-        Ok(json!(in alloc; topic.as_str())?)
+        told::text(alloc, topic_of(alloc, class, event)?.as_str())
     }
 }

@@ -1,13 +1,14 @@
 //! Cases of sources, documents, sinks and clocks: what each call on one answers, in order.
 
-use crate::{given, told};
 use anyhow::Context;
 use es_io::{
     Clock, Document, Documents, FileDocument, ListClock, MemoryDocument, MemorySink, MemorySource,
     Sink, Source, StdSink, StdSource, SystemClock, write_all,
 };
 use es_model::{CallFault, Failed, Moment, Moments, Text};
-use serde_json::{Value, json};
+use es_suite::given;
+use es_suite::told::{self, Items, Members};
+use serde_json::Value;
 use std::alloc::Global;
 use std::rt::{Clock as WallClock, Files};
 
@@ -15,102 +16,128 @@ use std::rt::{Clock as WallClock, Files};
 fn read<S: Source>(alloc: Global, source: &mut S, room: u64) -> anyhow::Result<Value> {
     let mut buffer = vec![in alloc; b'-'; room as usize]?;
     let count = source.read(buffer.as_mut_slice());
-    let buffer = told::bytes(alloc, buffer.as_slice())?;
+    let mut told = Members::new(alloc);
+    told.put_bytes("buffer", buffer.as_slice());
     match count {
-        Ok(count) => Ok(json!(in alloc; {"buffer": buffer, "count": count as u64})?),
-        Err(Failed) => Ok(json!(in alloc; {"buffer": buffer, "fault": "failed"})?),
+        Ok(count) => told.put("count", count as u64),
+        Err(Failed) => told.put("fault", "failed"),
     }
+    told.end()
 }
 
 fn begun(alloc: Global, begun: Result<(), CallFault>) -> anyhow::Result<Value> {
     match begun {
-        Ok(()) => Ok(json!(in alloc; "begun")?),
+        Ok(()) => told::text(alloc, "begun"),
         Err(CallFault::Failed) => told::fault(alloc, "failed"),
         Err(CallFault::NoMemory) => told::no_memory(),
     }
 }
 
-// The answers of documents to steps: a name to begin, or room to read into.
-fn steps<D: Document>(alloc: Global, document: &mut D, steps: &[Value]) -> anyhow::Result<Value> {
-    let mut answers = Vec::new(alloc);
-    for step in steps {
-        let answer = match step.as_str() {
-            Some(name) => begun(alloc, document.begin(&Text::from_str(alloc, name)?))?,
-            None => read(alloc, document, step.as_u64().context("no room")?)?,
-        };
-        answers.push(answer)?;
+// The answer of documents to a step: a name to begin, or room to read into.
+fn step<D: Document>(alloc: Global, document: &mut D, step: &Value) -> anyhow::Result<Value> {
+    if let Some(room) = step.as_u64() {
+        return read(alloc, document, room);
     }
-    Ok(Value::Array(answers))
+    let name = Text::from_str(alloc, step.as_str().context("no name")?)?;
+    begun(alloc, document.begin(&name))
+}
+
+// The answers of documents to steps.
+fn steps<D: Document>(alloc: Global, document: &mut D, steps: &[Value]) -> anyhow::Result<Value> {
+    let mut answers = Items::new(alloc);
+    for given in steps {
+        answers.put(step(alloc, document, given)?);
+    }
+    answers.end()
+}
+
+// Documents with their names.
+fn named(alloc: Global, pairs: &[Value]) -> anyhow::Result<Documents> {
+    let mut documents = Documents::new(alloc);
+    for pair in pairs {
+        let name = given::owned(alloc, pair, "name")?;
+        documents.push((name, given::bytes(alloc, given::member(pair, "bytes")?)?))?;
+    }
+    Ok(documents)
 }
 
 // Documents in memory.
 fn documents(alloc: Global, case: &Value) -> anyhow::Result<Value> {
-    let mut documents = Documents::new(alloc);
-    for pair in given::items(case, "documents")?.iter() {
-        let name = given::owned(alloc, pair, "name")?;
-        documents.push((name, given::bytes(alloc, given::member(pair, "bytes")?)?))?;
-    }
+    let trees = given::items(case, "steps")?;
     let failing = given::calls(alloc, case, "failing")?;
-    let mut document = MemoryDocument::new(alloc, documents, failing);
-    steps(alloc, &mut document, given::items(case, "steps")?)
+    let documents = named(alloc, given::items(case, "documents")?)?;
+    steps(alloc, &mut MemoryDocument::new(alloc, documents, failing), trees)
 }
 
 // A source in memory.
 fn source(alloc: Global, case: &Value) -> anyhow::Result<Value> {
     let bytes = given::bytes(alloc, given::member(case, "source")?)?;
     let mut source = MemorySource::new(bytes, given::calls(alloc, case, "failing")?);
-    let mut answers = Vec::new(alloc);
+    let mut answers = Items::new(alloc);
     for room in given::items(case, "rooms")?.iter() {
-        answers.push(read(alloc, &mut source, room.as_u64().context("no room")?)?)?;
+        answers.put(read(alloc, &mut source, room.as_u64().context("no room")?)?);
     }
-    Ok(Value::Array(answers))
+    answers.end()
 }
 
-// The answer of a sink to a step: bytes to write whole or as far as they go, or to hand them on.
+// The answer to bytes that are written whole, or handed on.
+fn done(alloc: Global, word: &str, done: Result<(), Failed>) -> anyhow::Result<Value> {
+    match done {
+        Ok(()) => told::text(alloc, word),
+        Err(Failed) => told::fault(alloc, "failed"),
+    }
+}
+
+// The answer to bytes that are written as far as they go.
+fn count(alloc: Global, count: Result<usize, Failed>) -> anyhow::Result<Value> {
+    match count {
+        Ok(count) => Ok(Value::from(count as u64)),
+        Err(Failed) => told::fault(alloc, "failed"),
+    }
+}
+
+// The answer of a sink to a step.
 fn written<T: Sink>(alloc: Global, sink: &mut T, step: &Value) -> anyhow::Result<Value> {
     if let Some(text) = step.get("all").and_then(Value::as_str) {
-        match write_all(sink, text.as_bytes()) {
-            Ok(()) => Ok(json!(in alloc; "written")?),
-            Err(Failed) => told::fault(alloc, "failed"),
-        }
+        done(alloc, "written", write_all(sink, text.as_bytes()))
     } else if let Some(text) = step.get("write").and_then(Value::as_str) {
-        match sink.write(text.as_bytes()) {
-            Ok(count) => Ok(Value::from(count as u64)),
-            Err(Failed) => told::fault(alloc, "failed"),
-        }
+        count(alloc, sink.write(text.as_bytes()))
     } else {
-        match sink.flush() {
-            Ok(()) => Ok(json!(in alloc; "flushed")?),
-            Err(Failed) => told::fault(alloc, "failed"),
-        }
+        done(alloc, "flushed", sink.flush())
     }
 }
 
-// A sink in memory: its answers, and what was written.
+// A sink in memory: its answers, and last what was written.
 fn sink(alloc: Global, case: &Value) -> anyhow::Result<Value> {
     let failing = given::calls(alloc, case, "failing")?;
     let mut sink = MemorySink::new(alloc, given::number(case, "sink")?, failing)?;
-    let mut answers = Vec::new(alloc);
+    let mut answers = Items::new(alloc);
     for step in given::items(case, "steps")?.iter() {
-        answers.push(written(alloc, &mut sink, step)?)?;
+        answers.put(written(alloc, &mut sink, step)?);
     }
-    let written = told::bytes(alloc, sink.bytes())?;
-    Ok(json!(in alloc; {"answers": Value::Array(answers), "written": written})?)
+    answers.put(told::bytes(alloc, sink.bytes())?);
+    answers.end()
+}
+
+// Moments at so many microseconds.
+fn moments(alloc: Global, trees: &[Value]) -> anyhow::Result<Moments> {
+    let mut moments = Moments::new(alloc);
+    for micros in trees {
+        let moment = Moment::new(micros.as_i64().context("no number")?);
+        moments.push(moment.context("no moment")?)?;
+    }
+    Ok(moments)
 }
 
 // The readings of a clock.
 fn clock(alloc: Global, case: &Value) -> anyhow::Result<Value> {
-    let mut readings = Moments::new(alloc);
-    for micros in given::items(case, "clock")?.iter() {
-        let moment = Moment::new(micros.as_i64().context("no number")?);
-        readings.push(moment.context("no moment")?)?;
+    let (count, after) = (given::number(case, "readings")?, given::moment(case, "after")?);
+    let mut clock = ListClock::new(moments(alloc, given::items(case, "clock")?)?, after);
+    let mut answers = Items::new(alloc);
+    for _ in 0..count {
+        answers.put(clock.now().micros());
     }
-    let mut clock = ListClock::new(readings, given::moment(case, "after")?);
-    let mut answers = Vec::new(alloc);
-    for _ in 0..given::number(case, "readings")? {
-        answers.push(Value::from(clock.now().micros()))?;
-    }
-    Ok(Value::Array(answers))
+    answers.end()
 }
 
 // The standard streams, of which the output takes nothing, and the system's clock, which is past a moment.
@@ -121,10 +148,11 @@ fn standard<R: Files + Print + Input + WallClock>(
 ) -> anyhow::Result<Value> {
     let _source = StdSource::new(rt);
     let mut sink = StdSink::new(rt);
-    let written = sink.write(b"").is_ok();
-    let flushed = sink.flush().is_ok();
-    let is_past = SystemClock::new(rt).now().micros() > past.micros();
-    Ok(json!(in alloc; {"flushed": flushed, "past": is_past, "written": written})?)
+    let mut told = Members::new(alloc);
+    told.put("written", sink.write(b"").is_ok());
+    told.put("flushed", sink.flush().is_ok());
+    told.put("past", SystemClock::new(rt).now().micros() > past.micros());
+    told.end()
 }
 
 /// The answer of a case.

@@ -1,9 +1,10 @@
 //! Cases of records: the canonical text of one, or its fault.
 
-use crate::{given, told};
 use es_model::Fields;
+use es_suite::given;
+use es_suite::told::{self, Members};
 use es_transcode::{DecodeFault, decode_record, decode_tree, encode_record, read_tree};
-use serde_json::{Value, json};
+use serde_json::Value;
 use std::alloc::Global;
 
 // The canonical text of what was read, or the fault.
@@ -11,8 +12,9 @@ fn told_of(alloc: Global, read: Result<Fields, DecodeFault>) -> anyhow::Result<V
     match read {
         Ok(fields) => {
             let text = encode_record(alloc, &fields)?;
-            let text = told::bytes(alloc, text.as_slice())?;
-            Ok(json!(in alloc; {"text": text})?)
+            let mut told = Members::new(alloc);
+            told.put_bytes("text", text.as_slice());
+            told.end()
         }
         Err(fault) => told::fault(alloc, told::of_record(fault)),
     }

@@ -1,13 +1,15 @@
 //! Cases of lines: the canonical text of what one asks of the base, or its fault.
 
-use crate::{documents, given, told};
+use crate::documents;
 use es_lines::{LineFault, Request, command_text, read_line};
 use es_model::Duplicate;
-use serde_json::{Value, json};
+use es_suite::given;
+use es_suite::told::{self, Members};
+use serde_json::Value;
 use std::alloc::Global;
 
 // What a line is answered where it asks nothing.
-fn fault(alloc: Global, fault: LineFault) -> anyhow::Result<Value> {
+fn faulty(alloc: Global, fault: LineFault) -> anyhow::Result<Value> {
     match fault {
         LineFault::Syntax => told::fault(alloc, "syntax"),
         LineFault::Unknown => told::fault(alloc, "unknown"),
@@ -16,16 +18,21 @@ fn fault(alloc: Global, fault: LineFault) -> anyhow::Result<Value> {
     }
 }
 
+// The canonical text of a command.
+fn text(alloc: Global, request: &Request) -> anyhow::Result<Value> {
+    let Request::Do { app, command } = request;
+    let text = command_text(alloc, app, &command.copy()?)?;
+    let mut told = Members::new(alloc);
+    told.put_bytes("text", text.as_slice());
+    told.end()
+}
+
 /// The answer of a case.
 pub(crate) fn answer(alloc: Global, base: &Value, case: &Value) -> anyhow::Result<Value> {
-    let sys = documents::system(alloc, base)?;
     let line = given::bytes(alloc, given::member(case, "line")?)?;
+    let sys = documents::system(alloc, base)?;
     match read_line(alloc, &sys, line.as_slice()) {
-        Ok(Request::Do { app, command }) => {
-            let text = command_text(alloc, &app, &command.copy()?)?;
-            let text = told::bytes(alloc, text.as_slice())?;
-            Ok(json!(in alloc; {"text": text})?)
-        }
-        Err(told) => fault(alloc, told),
+        Ok(request) => text(alloc, &request),
+        Err(fault) => faulty(alloc, fault),
     }
 }

@@ -2,33 +2,46 @@
 
 ghost use Rattle.es_expr.specs.Sound.{IsChecked};
 
+use crate::documents;
 use crate::values::kinds;
-use crate::{atoms, given, told};
-use anyhow::Context;
 use es_decl::read_expr;
 use es_expr::{EvalFault, ExprFault, check, eval, fit};
-use es_model::{Boxed, Duplicate, Expr, Fields, Kind, Kinds, Text};
+use es_model::{AtomKind, Boxed, Duplicate, Expr, Fields, Kind, Kinds, Text};
+use es_suite::given;
+use es_suite::told::{self, Members};
 use es_transcode::encode_tree;
-use serde_json::{Value, json};
+use serde_json::Value;
 use std::alloc::Global;
 
-// A value as a tree.
-fn tree_of(alloc: Global, value: es_model::Value) -> anyhow::Result<Value> {
-    let mut fields = Fields::new(alloc);
-    fields.put(Text::from_str(alloc, "value")?, value)?;
-    let tree = encode_tree(alloc, &fields)?;
-    Ok(tree.get("value").context("no value")?.clone()?)
+// The word of a kind of atoms.
+fn atom_word(kind: AtomKind) -> &'static str {
+    match kind {
+        AtomKind::Bool => "bool",
+        AtomKind::Int => "int",
+        AtomKind::Text => "text",
+        AtomKind::Uuid => "uuid",
+        AtomKind::Moment => "moment",
+        AtomKind::Decimal => "decimal",
+    }
 }
 
-// The word of a kind.
-fn word(alloc: Global, kind: Kind) -> anyhow::Result<String> {
+// The name of the member that a value of a kind is told as.
+fn word(alloc: Global, kind: Kind) -> anyhow::Result<Text> {
     match kind {
-        Kind::One(kind) => Ok(String::from_str(alloc, atoms::word(kind))?),
+        Kind::One(kind) => Ok(Text::from_str(alloc, atom_word(kind))?),
         Kind::List(kind) => {
-            let word = atoms::word(kind);
-            Ok(format!(in alloc; "list:{word}")?)
+            let word = atom_word(kind);
+            let word = format!(in alloc; "list:{word}")?;
+            Ok(Text::from_str(alloc, word.as_str())?)
         }
     }
+}
+
+// A value under the word of its kind.
+fn tree_of(alloc: Global, kind: Kind, value: es_model::Value) -> anyhow::Result<Value> {
+    let mut fields = Fields::new(alloc);
+    fields.put(word(alloc, kind)?, value)?;
+    Ok(encode_tree(alloc, &fields)?)
 }
 
 // The value of an expression of a kind.
@@ -36,10 +49,7 @@ fn valued(alloc: Global, expr: &Expr, env: &Fields, kind: Kind) -> anyhow::Resul
     requires { IsChecked expr.now env.now }
 {
     match eval(alloc, expr, env) {
-        Ok(value) => {
-            let (kind, value) = (word(alloc, kind)?, tree_of(alloc, value)?);
-            Ok(json!(in alloc; {"kind": kind.as_str(), "value": value})?)
-        }
+        Ok(value) => tree_of(alloc, kind, value),
         Err(EvalFault::Overflow) => told::fault(alloc, "overflow"),
         Err(EvalFault::NoMemory) => told::no_memory(),
     }
@@ -67,18 +77,13 @@ fn judged(alloc: Global, expr: &Expr, kinds: &Kinds, env: &Fields) -> anyhow::Re
     }
 }
 
-// A text of so many letters, and its length where that is wanted: no document holds the longest ones.
-fn long(alloc: Global, letters: u64, is_length: bool) -> anyhow::Result<Expr> {
+// A text of so many letters: no document holds the longest ones.
+fn long(alloc: Global, letters: u64) -> anyhow::Result<Expr> {
     let mut text = String::new(alloc);
     for _ in 0..letters {
         text.push('a')?;
     }
-    let text = Expr::Text(Text::from_str(alloc, text.as_str())?);
-    if is_length {
-        Ok(Expr::Len(Boxed::new(alloc, text)?))
-    } else {
-        Ok(text)
-    }
+    Ok(Expr::Text(Text::from_str(alloc, text.as_str())?))
 }
 
 // What an expression that was read comes to.
@@ -97,11 +102,14 @@ fn evaluated(alloc: Global, case: &Value, expr: &Expr) -> anyhow::Result<Value> 
 /// The answer of a case.
 pub(crate) fn answer(alloc: Global, case: &Value) -> anyhow::Result<Value> {
     if let Some(letters) = case.get("letters").and_then(Value::as_u64) {
-        let expr = long(alloc, letters, case.get("length").is_some())?;
-        return evaluated(alloc, case, &expr);
+        return evaluated(alloc, case, &long(alloc, letters)?);
+    }
+    if let Some(letters) = case.get("length_of").and_then(Value::as_u64) {
+        let text = Boxed::new(alloc, long(alloc, letters)?)?;
+        return evaluated(alloc, case, &Expr::Len(text));
     }
     match read_expr(alloc, given::member(case, "eval")?) {
         Ok(expr) => evaluated(alloc, case, &expr.copy()?),
-        Err(fault) => told::of_document(alloc, &fault),
+        Err(fault) => documents::faulty(alloc, &fault),
     }
 }

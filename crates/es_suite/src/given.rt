@@ -1,48 +1,44 @@
 //! What a case gives: the members of an object as texts, numbers, ids, moments and values.
 
 use anyhow::Context;
-use es_model::{Bytes, Calls, Fields, Moment, Text};
+use es_model::{Bytes, Calls, Fields, Moment, StoredEvent, Text};
 use es_transcode::{decode_tree, id_of};
 use serde_json::Value;
 use std::alloc::Global;
 use uuid::Uuid;
 
 /// A member that has to be there.
-pub(crate) fn member<'a>(tree: &'a Value, name: &str) -> anyhow::Result<&'a Value> {
-    tree.get(name).context(format_args!("no member {name}"))
+pub fn member<'a>(tree: &'a Value, name: &str) -> anyhow::Result<&'a Value> {
+    tree.get(name).context("a member is missing")
 }
 
-pub(crate) fn text<'a>(tree: &'a Value, name: &str) -> anyhow::Result<&'a str> {
+pub fn text<'a>(tree: &'a Value, name: &str) -> anyhow::Result<&'a str> {
     let text = member(tree, name)?.as_str();
-    text.context(format_args!("{name} is no text"))
+    text.context("no text")
 }
 
-pub(crate) fn owned(alloc: Global, tree: &Value, name: &str) -> anyhow::Result<Text> {
+pub fn owned(alloc: Global, tree: &Value, name: &str) -> anyhow::Result<Text> {
     Ok(Text::from_str(alloc, text(tree, name)?)?)
 }
 
-pub(crate) fn number(tree: &Value, name: &str) -> anyhow::Result<u64> {
+pub fn number(tree: &Value, name: &str) -> anyhow::Result<u64> {
     let number = member(tree, name)?.as_u64();
-    number.context(format_args!("{name} is no number"))
+    number.context("no number")
 }
 
 /// A number that may be below 0.
-pub(crate) fn integer(tree: &Value, name: &str) -> anyhow::Result<i64> {
+pub fn integer(tree: &Value, name: &str) -> anyhow::Result<i64> {
     let number = member(tree, name)?.as_i64();
-    number.context(format_args!("{name} is no integer"))
+    number.context("no integer")
 }
 
-pub(crate) fn items<'a>(tree: &'a Value, name: &str) -> anyhow::Result<&'a [Value]> {
+pub fn items<'a>(tree: &'a Value, name: &str) -> anyhow::Result<&'a [Value]> {
     let items = member(tree, name)?.as_array();
-    Ok(
-        items
-            .context(format_args!("{name} is no array"))?
-            .as_slice(),
-    )
+    Ok(items.context("no array")?.as_slice())
 }
 
 /// Numbers of calls, none where the member is absent.
-pub(crate) fn calls(alloc: Global, tree: &Value, name: &str) -> anyhow::Result<Calls> {
+pub fn calls(alloc: Global, tree: &Value, name: &str) -> anyhow::Result<Calls> {
     let mut calls = Calls::new(alloc);
     if tree.get(name).is_none() {
         return Ok(calls);
@@ -54,16 +50,16 @@ pub(crate) fn calls(alloc: Global, tree: &Value, name: &str) -> anyhow::Result<C
 }
 
 /// An id in any of its spellings.
-pub(crate) fn id(tree: &Value, name: &str) -> anyhow::Result<Uuid> {
-    id_of(text(tree, name)?).context(format_args!("{name} is no id"))
+pub fn id(tree: &Value, name: &str) -> anyhow::Result<Uuid> {
+    id_of(text(tree, name)?).context("no id")
 }
 
-pub(crate) fn moment(tree: &Value, name: &str) -> anyhow::Result<Moment> {
-    Moment::new(integer(tree, name)?).context(format_args!("{name} is no moment"))
+pub fn moment(tree: &Value, name: &str) -> anyhow::Result<Moment> {
+    Moment::new(integer(tree, name)?).context("no moment")
 }
 
 /// The fields of a record.
-pub(crate) fn fields(alloc: Global, tree: &Value, name: &str) -> anyhow::Result<Fields> {
+pub fn fields(alloc: Global, tree: &Value, name: &str) -> anyhow::Result<Fields> {
     Ok(decode_tree(alloc, member(tree, name)?)?)
 }
 
@@ -86,7 +82,7 @@ fn push_part(alloc: Global, bytes: &mut Bytes, part: &Value) -> anyhow::Result<(
 }
 
 /// Bytes as a text, as parts, or as hexadecimal digits.
-pub(crate) fn bytes(alloc: Global, tree: &Value) -> anyhow::Result<Bytes> {
+pub fn bytes(alloc: Global, tree: &Value) -> anyhow::Result<Bytes> {
     let mut bytes = Bytes::new(alloc);
     if let Some(text) = tree.as_str() {
         bytes.extend(text.as_bytes())?;
@@ -98,4 +94,18 @@ pub(crate) fn bytes(alloc: Global, tree: &Value) -> anyhow::Result<Bytes> {
         return Ok(Bytes::from_vec(hex::decode(alloc, text(tree, "hex")?)?));
     }
     Ok(bytes)
+}
+
+/// A stored event.
+pub fn stored(alloc: Global, tree: &Value) -> anyhow::Result<StoredEvent> {
+    let originator_id = id(tree, "id")?;
+    let originator_version = number(tree, "version")?;
+    let topic = owned(alloc, tree, "topic")?;
+    let state = bytes(alloc, member(tree, "state")?)?;
+    Ok(StoredEvent {
+        originator_id,
+        originator_version,
+        topic,
+        state,
+    })
 }

@@ -1,0 +1,99 @@
+//! The run over files of cases.
+
+use crate::given;
+use serde_json::Value;
+use std::alloc::Global;
+use std::rt::{Env, Files};
+use std::{env, fs};
+
+/// What answers the cases of files.
+pub trait Suite {
+    /// The answer of a case, by its file and the document that stands before it, which is null where none does.
+    fn answer(
+        &self,
+        alloc: Global,
+        file: &str,
+        base: &Value,
+        case: &Value,
+    ) -> anyhow::Result<Value>;
+}
+
+// How many cases there were, and how many had a wrong answer.
+#[derive(Drop)]
+struct Tally {
+    cases: u64,
+    wrong: u64,
+}
+
+// What is wrong with the answer of a case, if something is.
+fn wrong<S: Suite>(
+    suite: &S,
+    alloc: Global,
+    file: &str,
+    base: &Value,
+    case: &Value,
+) -> anyhow::Result<Option<String>> {
+    let wanted = given::member(case, "wanted")?;
+    let answer = suite.answer(alloc, file, base, case)?;
+    if answer == *wanted {
+        Ok(None)
+    } else {
+        Ok(Some(format!(in alloc; "{answer}, and not {wanted}")?))
+    }
+}
+
+// What is wrong with a line of a file, if something is. One with a base sets it, and is no case.
+fn run_line<S: Suite>(
+    suite: &S,
+    alloc: Global,
+    file: &str,
+    base: &mut Value,
+    line: &str,
+    tally: &mut Tally,
+) -> anyhow::Result<Option<String>> {
+    let case = Value::from_str(alloc, line)?;
+    if case.get("from").is_some() {
+        return Ok(None);
+    }
+    if let Some(document) = case.get("base") {
+        *base = document.clone()?;
+        return Ok(None);
+    }
+    tally.cases = tally.cases.saturating_add(1);
+    wrong(suite, alloc, file, base, &case)
+}
+
+// Runs the cases of a file, and prints what is wrong.
+fn run_file<S: Suite>(
+    rt: &(impl Files + Print + AllocGlobal),
+    suite: &S,
+    file: &str,
+) -> anyhow::Result<()> {
+    let alloc = rt.alloc();
+    let text = fs::read_to_string(rt, file)?;
+    let mut base = Value::Null;
+    let mut tally = Tally { cases: 0, wrong: 0 };
+    for (place, line) in (1u64..).zip(text.as_str().lines()) {
+        match run_line(suite, alloc, file, &mut base, line, &mut tally) {
+            Ok(None) => continue,
+            Ok(Some(text)) => println!(rt; "{file}:{place}: {text}")?,
+            Err(error) => println!(rt; "{file}:{place}: {error:#}")?,
+        }
+        tally.wrong = tally.wrong.saturating_add(1);
+    }
+    println!(rt; "{file}: {} cases, {} wrong", tally.cases, tally.wrong)?;
+    Ok(())
+}
+
+/// Runs the cases of the files that the words name, one JSON object a line, and prints each whose answer isn't
+/// the wanted one, and how many there were in each file. A line with `from` says where a file's wanted answers
+/// come from, and one with `base` gives the document that later cases are about.
+pub fn run<S: Suite>(
+    rt: &(impl Env + Files + Print + AllocGlobal),
+    suite: &S,
+) -> anyhow::Result<()> {
+    for file in env::args(rt)?.skip(1) {
+        run_file(rt, suite, file.as_str())?;
+    }
+    Ok(())
+}

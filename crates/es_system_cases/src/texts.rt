@@ -1,0 +1,187 @@
+//! Cases of the texts of replies and end lines.
+
+use anyhow::Context;
+use es_lines::{End, Reply, end_text, fixed_end_line, reply_text};
+use es_model::{Code, Counts, Duplicate, Text};
+use es_suite::{given, told};
+use serde_json::Value;
+use std::alloc::Global;
+
+// A reply without members, by its name.
+fn bare_reply(name: &str) -> Option<Reply> {
+    match name {
+        "syntax" => Some(Reply::Syntax),
+        "unknown" => Some(Reply::Unknown),
+        "kind" => Some(Reply::Kind),
+        "long" => Some(Reply::Long),
+        _ => None,
+    }
+}
+
+fn accepted(case: &Value) -> anyhow::Result<Reply> {
+    Ok(Reply::Accepted {
+        recording: given::number(case, "recording")?,
+        first: given::number(case, "first")?,
+        last: given::number(case, "last")?,
+        version: given::number(case, "version")?,
+    })
+}
+
+fn unreadable_reply(alloc: Global, case: &Value) -> anyhow::Result<Reply> {
+    let id = given::number(case, "id")?;
+    let app = given::owned(alloc, case, "app")?;
+    Ok(Reply::Unreadable { app, id })
+}
+
+// A reply by its name, with its members.
+fn reply(alloc: Global, name: &str, case: &Value) -> anyhow::Result<Reply> {
+    match name {
+        "accepted" => accepted(case),
+        "refused" => Ok(Reply::Refused {
+            code: given::owned(alloc, case, "code")?,
+        }),
+        "conflict" => Ok(Reply::Conflict {
+            latest: given::number(case, "latest")?,
+        }),
+        "unreadable" => unreadable_reply(alloc, case),
+        _ => bare_reply(name).context("no such reply"),
+    }
+}
+
+// The code of a word.
+fn code(word: &str) -> Option<Code> {
+    match word {
+        "long" => Some(Code::Long),
+        "json" => Some(Code::Json),
+        "form" => Some(Code::Form),
+        "limit" => Some(Code::Limit),
+        "name" => Some(Code::Name),
+        "repeat" => Some(Code::Repeat),
+        "unknown" => Some(Code::Unknown),
+        "kind" => Some(Code::Kind),
+        "fields" => Some(Code::Fields),
+        "order" => Some(Code::Order),
+        "pipe" => Some(Code::Pipe),
+        _ => None,
+    }
+}
+
+// How many recordings were added, by application.
+fn counts(alloc: Global, tree: &Value) -> anyhow::Result<Counts> {
+    let mut counts = Counts::new(alloc);
+    for (name, number) in tree.as_object().context("no counts")?.iter() {
+        let number = number.as_u64().context("no number")?;
+        counts.put(Text::from_str(alloc, name.as_str())?, number)?;
+    }
+    Ok(counts.copy()?)
+}
+
+// An end without members, by its name.
+fn bare_end(name: &str) -> Option<End> {
+    match name {
+        "memory" => Some(End::Memory),
+        "usage" => Some(End::Usage),
+        "system" => Some(End::System),
+        "input" => Some(End::Input),
+        "recorder" => Some(End::Recorder),
+        "over" => Some(End::Over),
+        "not-built" => Some(End::NotBuilt),
+        _ => None,
+    }
+}
+
+fn refused(alloc: Global, case: &Value) -> anyhow::Result<End> {
+    let id = given::number(case, "id")?;
+    let recordings = given::number(case, "recordings")?;
+    let rule = given::number(case, "rule")?;
+    let app = given::owned(alloc, case, "app")?;
+    let leader = given::owned(alloc, case, "leader")?;
+    let code = given::owned(alloc, case, "code")?;
+    Ok(End::Refused {
+        app,
+        leader,
+        id,
+        recordings,
+        code,
+        rule,
+    })
+}
+
+fn ok(alloc: Global, case: &Value) -> anyhow::Result<End> {
+    let lines = given::number(case, "lines")?;
+    let added = counts(alloc, given::member(case, "added")?)?;
+    Ok(End::Ok { added, lines })
+}
+
+fn declaration(alloc: Global, case: &Value) -> anyhow::Result<End> {
+    let code = code(given::text(case, "code")?).context("no such code")?;
+    let path = given::owned(alloc, case, "path")?;
+    Ok(End::Declaration { code, path })
+}
+
+fn turns(alloc: Global, case: &Value) -> anyhow::Result<End> {
+    let turns = given::number(case, "turns")?;
+    let app = given::owned(alloc, case, "app")?;
+    Ok(End::Turns { app, turns })
+}
+
+fn unreadable(alloc: Global, case: &Value) -> anyhow::Result<End> {
+    let id = given::number(case, "id")?;
+    let app = given::owned(alloc, case, "app")?;
+    Ok(End::Unreadable { app, id })
+}
+
+fn full(alloc: Global, case: &Value) -> anyhow::Result<End> {
+    let last = given::number(case, "last")?;
+    let capacity = given::number(case, "capacity")?;
+    let app = given::owned(alloc, case, "app")?;
+    Ok(End::Full {
+        app,
+        last,
+        capacity,
+    })
+}
+
+// An end by its name, with its members.
+fn end(alloc: Global, name: &str, case: &Value) -> anyhow::Result<End> {
+    match name {
+        "ok" => ok(alloc, case),
+        "declaration" => declaration(alloc, case),
+        "refused" => refused(alloc, case),
+        "turns" => turns(alloc, case),
+        "unreadable" => unreadable(alloc, case),
+        "full" => full(alloc, case),
+        _ => bare_end(name).context("no such end"),
+    }
+}
+
+// The line of an end that takes no memory, none of another.
+fn fixed_line(alloc: Global, end: &End) -> anyhow::Result<Value> {
+    match fixed_end_line(end) {
+        Some(line) => told::bytes(alloc, line),
+        None => Ok(Value::Null),
+    }
+}
+
+// The text of a reply.
+fn of_reply(alloc: Global, reply: &Reply) -> anyhow::Result<Value> {
+    told::bytes(alloc, reply_text(alloc, reply)?.as_slice())
+}
+
+// The text of an end line.
+fn of_end(alloc: Global, end: &End) -> anyhow::Result<Value> {
+    told::bytes(alloc, end_text(alloc, end)?.as_slice())
+}
+
+/// The answer of a case.
+pub(crate) fn answer(alloc: Global, case: &Value) -> anyhow::Result<Value> {
+    if let Some(name) = case.get("reply").and_then(Value::as_str) {
+        return of_reply(alloc, &reply(alloc, name, case)?);
+    }
+    let end = end(alloc, given::text(case, "end")?, case)?;
+    if case.get("fixed").is_some() {
+        fixed_line(alloc, &end)
+    } else {
+        of_end(alloc, &end)
+    }
+}
