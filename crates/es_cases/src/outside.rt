@@ -66,7 +66,11 @@ fn documents(alloc: Global, case: &Value) -> anyhow::Result<Value> {
     let trees = given::items(case, "steps")?;
     let failing = given::calls(alloc, case, "failing")?;
     let documents = named(alloc, given::items(case, "documents")?)?;
-    steps(alloc, &mut MemoryDocument::new(alloc, documents, failing), trees)
+    steps(
+        alloc,
+        &mut MemoryDocument::new(alloc, documents, failing),
+        trees,
+    )
 }
 
 // A source in memory.
@@ -131,7 +135,10 @@ fn moments(alloc: Global, trees: &[Value]) -> anyhow::Result<Moments> {
 
 // The readings of a clock.
 fn clock(alloc: Global, case: &Value) -> anyhow::Result<Value> {
-    let (count, after) = (given::number(case, "readings")?, given::moment(case, "after")?);
+    let (count, after) = (
+        given::number(case, "readings")?,
+        given::moment(case, "after")?,
+    );
     let mut clock = ListClock::new(moments(alloc, given::items(case, "clock")?)?, after);
     let mut answers = Items::new(alloc);
     for _ in 0..count {

@@ -95,7 +95,10 @@ fn pairs_of(alloc: Global, sys: &System) -> anyhow::Result<Items> {
 fn lists(alloc: Global, sys: &System, leader: &Text) -> anyhow::Result<Value> {
     let mut told = Members::new(alloc);
     told.put_items("pairs", pairs_of(alloc, sys)?);
-    told.put_items("followers_of", names(alloc, &followers_of(alloc, sys, leader)?));
+    told.put_items(
+        "followers_of",
+        names(alloc, &followers_of(alloc, sys, leader)?),
+    );
     told.put_items("followers", names(alloc, &followers(alloc, sys)?));
     told.put_items("leaders", names(alloc, &leaders(alloc, sys)?));
     told.put_items("leaders_only", names(alloc, &leaders_only(alloc, sys)?));
