@@ -24,8 +24,8 @@ fn atom_kind(word: &str) -> Option<AtomKind> {
 // The kind of values that a word is for.
 fn kind(word: &str) -> Option<Kind> {
     match word.strip_prefix("list:") {
-        Some(word) => atom_kind(word).map(Kind::List),
-        None => atom_kind(word).map(Kind::One),
+        Some(word) => Some(Kind::List(atom_kind(word)?)),
+        None => Some(Kind::One(atom_kind(word)?)),
     }
 }
 
