@@ -29,12 +29,19 @@ fn kind(word: &str) -> Option<Kind> {
     }
 }
 
+// Gives a name the kind of a word.
+fn put_kind(alloc: Global, kinds: &mut Kinds, name: &str, word: &Value) -> anyhow::Result<()> {
+    let word = word.as_str().context("no word of a kind")?;
+    let kind = kind(word).context("no such kind")?;
+    kinds.put(Text::from_str(alloc, name)?, kind)?;
+    Ok(())
+}
+
 /// The kinds of names.
 pub(crate) fn kinds(alloc: Global, tree: &Value) -> anyhow::Result<Kinds> {
     let mut kinds = Kinds::new(alloc);
     for (name, word) in tree.as_object().context("no kinds")?.iter() {
-        let kind = word.as_str().and_then(kind).context("no such kind")?;
-        kinds.put(Text::from_str(alloc, name.as_str())?, kind)?;
+        put_kind(alloc, &mut kinds, name.as_str(), word)?;
     }
     Ok(kinds)
 }
