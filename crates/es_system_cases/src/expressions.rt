@@ -99,17 +99,36 @@ fn evaluated(alloc: Global, case: &Value, expr: &Expr) -> anyhow::Result<Value> 
     judged(alloc, expr, &kinds, &env)
 }
 
+// What a text of so many letters comes to.
+fn of_letters(alloc: Global, case: &Value, letters: u64) -> anyhow::Result<Value> {
+    let text = long(alloc, letters)?;
+    evaluated(alloc, case, &text)
+}
+
+// What the length of such a text comes to.
+fn of_length(alloc: Global, case: &Value, letters: u64) -> anyhow::Result<Value> {
+    let length = Expr::Len(Boxed::new(alloc, long(alloc, letters)?)?);
+    evaluated(alloc, case, &length)
+}
+
+// What the expression of a tree comes to.
+fn of_tree(alloc: Global, case: &Value, tree: &Value) -> anyhow::Result<Value> {
+    match read_expr(alloc, tree) {
+        Ok(expr) => {
+            let expr = expr.copy()?;
+            evaluated(alloc, case, &expr)
+        }
+        Err(fault) => documents::faulty(alloc, &fault),
+    }
+}
+
 /// The answer of a case.
 pub(crate) fn answer(alloc: Global, case: &Value) -> anyhow::Result<Value> {
     if let Some(letters) = case.get("letters").and_then(Value::as_u64) {
-        return evaluated(alloc, case, &long(alloc, letters)?);
+        return of_letters(alloc, case, letters);
     }
     if let Some(letters) = case.get("length_of").and_then(Value::as_u64) {
-        let text = Boxed::new(alloc, long(alloc, letters)?)?;
-        return evaluated(alloc, case, &Expr::Len(text));
+        return of_length(alloc, case, letters);
     }
-    match read_expr(alloc, given::member(case, "eval")?) {
-        Ok(expr) => evaluated(alloc, case, &expr.copy()?),
-        Err(fault) => documents::faulty(alloc, &fault),
-    }
+    of_tree(alloc, case, given::member(case, "eval")?)
 }
