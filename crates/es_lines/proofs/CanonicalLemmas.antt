@@ -26,7 +26,9 @@ use Rattle.es_transcode.proofs.CanonicalLemmas.{only-record_tree}
 use Rattle.es_transcode.proofs.DecodedLemmas.{tree-of-record}
 use Rattle.es_domain.specs.declared.command.Command.{Command}
 use Rattle.es_lines.specs.CommandText.{command_tree, command_text, is_absent_or_expectable}
-use Rattle.es_lines.specs.Requests.{asks, and_then, has_form, text_in, is_expectable, if_expectable, version_in, expected, text_of, names, id, args, target, command, members, spelled, request_in, IsDeclared}
+use Rattle.es_lines.specs.Requests.{asks, and_then, has_only, text_in, is_expectable, number_if, number_in, optional, text_of, names, id_of, args, target, command, is_true, aggregate, app_and, has, do_line, get_line, log_line, tracking_line, word_line, spelled, request_in, IsDeclared}
+use Rattle.es_lines.specs.declared.request.Request.{Request}
+use Rattle.es_lines.specs.declared.request.Request.TheVariants.{Do, Get, Log, Tracking, Sync, Stop}
 use Rattle.es_lines.proofs.IdLemmas.{parsed-again, utf8-simple}
 use Rattle.es_lines.proofs.PointLemmas.{halves-joined}
 use Rattle.es_lines.proofs.RequestLemmas.{asked-of}
@@ -115,11 +117,11 @@ whole-record r d is = subst HasWhole (sym is.2) (whole-members r is.0 is.1)
 
 -- ---- the version that a line expects
 
-version-is : (o : Option ℕ) (n : ℕ) → if_expectable o ≡ Some n → IsTrue (is_expectable n)
+version-is : (o : Option ℕ) (n : ℕ) → number_if is_expectable o ≡ Some n → IsTrue (is_expectable n)
 version-is None n is = absurd (cc is)
 version-is (Some m) n is = let c = chosen (is_expectable m) (Some m) n is in let same : m ≡ n = cc c.1 in subst (λ k. IsTrue (is_expectable k)) same c.0
 
-version-in : (d : Data) (n : ℕ) → version_in d ≡ Some n → IsTrue (is_expectable n)
+version-in : (d : Data) (n : ℕ) → number_in is_expectable d ≡ Some n → IsTrue (is_expectable n)
 version-in null n is = absurd (cc is)
 version-in (boolean b) n is = absurd (cc is)
 version-in (number k) n is = version-is (as_u64 k) n is
@@ -131,9 +133,9 @@ some-version : (o v : Option ℕ) → ((n : ℕ) → o ≡ Some n → IsTrue (is
 some-version None v fits is = absurd (cc is)
 some-version (Some n) v fits is = let same : Some n ≡ v = cc is in subst (λ w. IsTrue (is_absent_or_expectable w)) same (fits n refl)
 
-expected-fits : (o : Option Data) (v : Option ℕ) → expected o ≡ Some v → IsTrue (is_absent_or_expectable v)
+expected-fits : (o : Option Data) (v : Option ℕ) → optional is_expectable o ≡ Some v → IsTrue (is_absent_or_expectable v)
 expected-fits None v is = let same : None ≡ v = cc is in subst (λ w. IsTrue (is_absent_or_expectable w)) same refl
-expected-fits (Some d) v is = some-version (version_in d) v (λ n e. version-in d n e) is
+expected-fits (Some d) v is = some-version (number_in is_expectable d) v (λ n e. version-in d n e) is
 
 -- ---- a command that a sound tree spells
 
@@ -148,9 +150,9 @@ spelled-command : (d : Data) (c : Command) → IsSound d → command d ≡ Some 
 spelled-command d c sound is =
     let t = taken (target d) _ c is in
     let a = taken (args d) _ c t.2 in
-    let v = taken (expected (get (codes "expect") d)) _ c a.2 in
+    let v = taken (optional is_expectable (get (codes "expect") d)) _ c a.2 in
     let n = taken (names d) _ t.0 t.1 in
-    let i = taken (id d) _ t.0 n.2 in
+    let i = taken (id_of (codes "id") d) _ t.0 n.2 in
     let both : (n.0, i.0) ≡ t.0 = cc i.2 in
     let s = taken (text_of (codes "do") d) halves n.0 n.1 in
     let u = taken (text_of (codes "id") d) parsed i.0 i.1 in
@@ -173,6 +175,61 @@ spelled-command d c sound is =
     ap (λ p. record { class = p.0.0; name = p.0.1; id = p.1; args = a.0; expect = v.0 }) both ∙ one _ c v.2 in
     subst IsSpelled whole_command made
 
+-- ---- a line of another form is no command
+
+abbrev app_or : Name → Option Request → Name
+app_or app (Some (Do a c)) = a
+app_or app o = app
+
+abbrev command_or : Command → Option Request → Command
+command_or command (Some (Do a c)) = c
+command_or command o = command
+
+abbrev do_names : List Name
+do_names = codes "app" ∷ codes "args" ∷ codes "do" ∷ codes "expect" ∷ codes "id" ∷ []
+
+either : (b : Bool) (x y : Option Request) (r : Request) → ¬ (x ≡ Some r) → ¬ (y ≡ Some r) → ¬ ((if b then x else y) ≡ Some r)
+either true x y r no_x no_y is = no_x is
+either false x y r no_x no_y is = no_y is
+
+first : (b : Bool) (x y : Option Request) (r : Request) → ¬ (y ≡ Some r) → (if b then x else y) ≡ Some r → x ≡ Some r
+first true x y r no_y is = is
+first false x y r no_y is = absurd (no_y is)
+
+no-get : (d : Data) (app : Name) (c : Command) → ¬ (get_line d ≡ Some (Do app c))
+no-get d app c is =
+    let m = chosen (has_only (codes "app" ∷ codes "get" ∷ codes "version" ∷ []) d) (and_then (text_of (codes "app") d) (λ app. and_then (aggregate d) (λ a. Some (Get app a.0 a.1)))) (Do app c) is in
+    let a = taken (text_of (codes "app") d) _ (Do app c) m.1 in
+    let b = taken (aggregate d) _ (Do app c) a.2 in
+    absurd (cc b.2)
+
+no-log : (d : Data) (app : Name) (c : Command) → ¬ (log_line d ≡ Some (Do app c))
+no-log d app c is =
+    let m = chosen (has_only (codes "app" ∷ codes "log" ∷ []) d) (and_then (app_and (codes "log") d) (λ p. Some (Log p.0 p.1))) (Do app c) is in
+    let a = taken (app_and (codes "log") d) _ (Do app c) m.1 in
+    absurd (cc a.2)
+
+no-tracking : (d : Data) (app : Name) (c : Command) → ¬ (tracking_line d ≡ Some (Do app c))
+no-tracking d app c is =
+    let m = chosen (has_only (codes "app" ∷ codes "tracking" ∷ []) d) (and_then (app_and (codes "tracking") d) (λ p. Some (Tracking p.0 p.1))) (Do app c) is in
+    let a = taken (app_and (codes "tracking") d) _ (Do app c) m.1 in
+    absurd (cc a.2)
+
+no-word : (word : Name) (r : Request) (d : Data) (app : Name) (c : Command) → ¬ (r ≡ Do app c) → ¬ (word_line word r d ≡ Some (Do app c))
+no-word word r d app c other is =
+    let m = chosen (has_only (word ∷ []) d) (if is_true (get word d) then Some r else None) (Do app c) is in
+    let a = chosen (is_true (get word d)) (Some r) (Do app c) m.1 in
+    other (one r (Do app c) a.1)
+
+of-do : (d : Data) (app : Name) (c : Command) → spelled d ≡ Some (Do app c) → do_line d ≡ Some (Do app c)
+of-do d app c is =
+    first (has (codes "do") d) (do_line d) _ (Do app c)
+    (either (has (codes "get") d) (get_line d) _ (Do app c) (no-get d app c)
+    (either (has (codes "log") d) (log_line d) _ (Do app c) (no-log d app c)
+    (either (has (codes "tracking") d) (tracking_line d) _ (Do app c) (no-tracking d app c)
+    (either (has (codes "sync") d) (word_line (codes "sync") Sync d) _ (Do app c) (no-word (codes "sync") Sync d app c (λ e. absurd (cc e)))
+    (no-word (codes "stop") Stop d app c (λ e. absurd (cc e))))))) is
+
 -- ---- its text
 
 sound-tree : (app : Name) (c : Command) (v : Option ℕ) → IsUtf8 app → IsSpelled c → IsSound (tree_with app c v)
@@ -188,24 +245,24 @@ whole-tree : (app : Name) (c : Command) (v : Option ℕ) → IsTrue (is_absent_o
 whole-tree app c None fits s = (tt, (s.whole, (tt, (tt, tt))))
 whole-tree app c (Some n) fits s = (tt, (s.whole, (tt, (small n fits, (tt, tt)))))
 
-written : (sys : System) (app : Name) (c : Command) → IsUtf8 app → IsSpelled c → IsDeclared sys app c → request_in sys (command_text app c) ≡ asks app c
+written : (sys : System) (app : Name) (c : Command) → IsUtf8 app → IsSpelled c → IsDeclared sys app c → request_in sys (command_text app c) ≡ asks (Do app c)
 unfolding command_text
 written sys app c utf8 s declared =
     let sound : IsSound (command_tree app c) = sound-tree app c c.expect utf8 s in
     let whole : HasWhole (command_tree app c) = whole-tree app c c.expect s.writable.expect s in
     asked-by sys app c (command_text app c) (utf8-text (command_tree app c) sound whole) (read-compact (command_tree app c) sound whole (flat-tree app c)) s.writable declared
 
-pub canonical : (sys : System) (line : List ℕ) (app : Name) (c : Command) → request_in sys line ≡ asks app c → request_in sys (command_text app c) ≡ asks app c
+pub canonical : (sys : System) (line : List ℕ) (app : Name) (c : Command) → request_in sys line ≡ asks (Do app c) → request_in sys (command_text app c) ≡ asks (Do app c)
 canonical sys line app c is =
-    let asked = asked-of sys (and_then (tree_in line) spelled) app c is in
-    let tree = taken (tree_in line) spelled (app, c) asked.1 in
+    let asked = asked-of sys (and_then (tree_in line) spelled) (Do app c) is in
+    let tree = taken (tree_in line) spelled (Do app c) asked.1 in
     let text = chosen (is_utf8 line) (read line) tree.0 tree.1 in
     let sound : IsSound tree.0 = sound-read line tree.0 (IsUtf8-from_is_utf8 line text.0) text.1 in
-    let m = chosen (has_form tree.0) (members tree.0) (app, c) tree.2 in
-    let a = taken (text_of (codes "app") tree.0) _ (app, c) m.1 in
-    let o = taken (command tree.0) _ (app, c) a.2 in
-    let same_app : a.0 ≡ app = ap (λ (p : Name × Command). p.0) (one _ _ o.2) in
-    let same_command : o.0 ≡ c = ap (λ (p : Name × Command). p.1) (one _ _ o.2) in
+    let m = chosen (has_only do_names tree.0) (and_then (text_of (codes "app") tree.0) (λ app. and_then (command tree.0) (λ c. Some (Do app c)))) (Do app c) (of-do tree.0 app c tree.2) in
+    let a = taken (text_of (codes "app") tree.0) _ (Do app c) m.1 in
+    let o = taken (command tree.0) _ (Do app c) a.2 in
+    let same_app : a.0 ≡ app = ap (app_or app) o.2 in
+    let same_command : o.0 ≡ c = ap (command_or c) o.2 in
     let utf8 : IsUtf8 app = subst IsUtf8 same_app (utf8-of (codes "app") tree.0 a.0 sound a.1) in
     let s : IsSpelled c = subst IsSpelled same_command (spelled-command tree.0 o.0 sound o.1) in
     written sys app c utf8 s asked.0

@@ -1,5 +1,5 @@
 -- What is read as an id is read again from its digits.
-use Rattle.std.proofs.Common.{◌≡◌, ◌+◌, ◌*◌, ◌-◌, ◌<◌, ℕ, zero, suc, Bool, true, false, ◌&&◌, ◌==◌, All, List, [], ◌∷◌, length, take, drop, get_or, Option, Some, None, if◌then◌else◌, IsUtf8, inl, refl, sym, subst, arith, eqb-true}
+use Rattle.std.proofs.Common.{◌≡◌, ◌+◌, ◌*◌, ◌<◌, ℕ, zero, suc, Bool, true, false, ◌&&◌, ◌==◌, All, List, [], ◌∷◌, length, take, drop, get_or, Option, Some, None, if◌then◌else◌, IsUtf8, inl, refl, sym, subst, arith, eqb-true}
 use Rattle.std.specs.List.{list_all}
 use Rattle.std.proofs.lemmas.Str.{IsUtf8-from_ascii}
 use Rattle.uuid.specs.Text.{by_index, hex_digit, nibble, simple_text, lower, value_of, is_hex_digit, byte_of_digits, parsed_simple, digits_of, has_hyphens, parsed_hyphenated, parsed_braced, parsed_urn, parsed}

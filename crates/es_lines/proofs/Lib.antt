@@ -1,9 +1,11 @@
+pub mod AggregateLemmas
 pub mod CanonicalLemmas
 pub mod ContentLemmas
 pub mod IdLemmas
 pub mod ObjectLemmas
 pub mod PointLemmas
 pub mod RequestLemmas
+pub mod SectionLemmas
 pub mod TextLemmas
 pub mod TokenLemmas
 pub mod TreeLemmas

@@ -1,5 +1,5 @@
 -- Laws of what is asked: it is declared, and what is declared is asked.
-use Rattle.std.proofs.Common.{◌≡◌, ◌∙◌, ℕ, suc, nat_le, ◌&&◌, Bool, true, false, IsTrue, cond, List, [], ◌∷◌, map, length, find, Option, Some, None, Result, Err, if◌then◌else◌, refl, sym, ap, subst, arith}
+use Rattle.std.proofs.Common.{◌≡◌, ◌∙◌, ℕ, suc, nat_le, ◌&&◌, Bool, true, false, IsTrue, cond, List, [], ◌∷◌, map, length, find, Option, Some, None, is_some, Result, Err, if◌then◌else◌, refl, sym, ap, subst, arith}
 use Rattle.std.proofs.lemmas.Slice.Eq.{bytes_eq-Decides}
 use Rattle.std.specs.List.{Contains, list_all}
 use Rattle.std.specs.Str.{bytes_eq}
@@ -12,6 +12,7 @@ use Rattle.es_model.specs.declared.declaration.Class.{Class}
 use Rattle.es_model.specs.declared.declaration.CommandDef.{CommandDef}
 use Rattle.es_model.specs.declared.declaration.System.{System}
 use Rattle.es_expr.specs.Checked.{IsCheckedSystem}
+use Rattle.es_expr.specs.Misfits.{leads}
 use Rattle.es_expr.specs.Limits.{are_numbers_within, are_kinds_within, is_event_within, are_events_within, is_class_within, are_commands_within, is_command_within, are_guards_within, are_triggers_within}
 use Rattle.es_expr.proofs.TopicLemmas.{passed, class-within}
 use Rattle.es_domain.specs.Decision.{IsOfCommand}
@@ -23,55 +24,68 @@ use Rattle.es_transcode.specs.RecordText.{IsRecordTree}
 use Rattle.es_transcode.specs.declared.fault.DecodeFault.{DecodeFault}
 use Rattle.es_transcode.specs.declared.fault.DecodeFault.TheVariants as decode
 use Rattle.es_transcode.proofs.DecodedLemmas.{no-record}
-use Rattle.es_lines.specs.Requests.{Asked, asks, refused, has_class, of_definition, fitting, asked_of, request_in, IsDeclared}
+use Rattle.es_lines.specs.Requests.{Asked, asks, refused, has_class, of_definition, fitting, of_app, asked_of, request_in, IsDeclared, IsApp, IsOfSystem}
 use Rattle.es_lines.specs.inner.Parts.{fault_of, Reads, Tests}
 use Rattle.es_lines.specs.declared.fault.LineFault.{LineFault}
 use Rattle.es_lines.specs.declared.fault.LineFault.TheVariants as fault
+use Rattle.es_lines.specs.declared.request.Request.{Request}
+use Rattle.es_lines.specs.declared.request.Request.TheVariants as request
 
 -- ---- what is asked is declared
 
-abbrev app_or : Name → Asked → Name
-app_or app (asks a c) = a
-app_or app (refused f) = app
-
-abbrev command_or : Command → Asked → Command
-command_or command (asks a c) = c
-command_or command (refused f) = command
+abbrev request_or : Request → Asked → Request
+request_or r (asks q) = q
+request_or r (refused f) = r
 
 -- what is asked where a test is true
-asked-if : (b : Bool) (q : Asked) (f : LineFault) (app : Name) (c : Command) → (if b then q else refused f) ≡ asks app c → (b ≡ true) × (q ≡ asks app c)
-asked-if true q f app c is = (refl, is)
-asked-if false q f app c is = absurd (cc is)
+asked-if : (b : Bool) (q : Asked) (f : LineFault) (r : Request) → (if b then q else refused f) ≡ asks r → (b ≡ true) × (q ≡ asks r)
+asked-if true q f r is = (refl, is)
+asked-if false q f r is = absurd (cc is)
 
-defined-asks : (o : Option (Class × CommandDef)) (a app : Name) (d c : Command) → of_definition o a d ≡ asks app c → IsOfCommand o d.args × ((a ≡ app) × (d ≡ c))
-defined-asks None a app d c is = absurd (cc is)
-defined-asks (Some p) a app d c is =
-    let h = asked-if (are_of_kinds d.args p.1.params) (asks a d) fault.Kind app c is in
-    (h.0, (ap (app_or a) h.1, ap (command_or d) h.1))
+defined-asks : (o : Option (Class × CommandDef)) (app : Name) (c : Command) (r : Request) → of_definition o app c ≡ asks r → IsOfCommand o c.args × (request.Do app c ≡ r)
+defined-asks None app c r is = absurd (cc is)
+defined-asks (Some p) app c r is =
+    let h = asked-if (are_of_kinds c.args p.1.params) (asks (request.Do app c)) fault.Kind r is in
+    (h.0, ap (request_or r) h.1)
 
-pub fitting-asks : (sys : System) (a app : Name) (d c : Command) → fitting sys a d ≡ asks app c → IsDeclared sys app c × ((a ≡ app) × (d ≡ c))
-fitting-asks sys a app d c is =
-    let listed = asked-if (has_class (app_named sys.apps a) d.class) (of_definition (command_named sys d.class d.name) a d) fault.Unknown app c is in
-    let h = defined-asks (command_named sys d.class d.name) a app d c listed.1 in
-    let same : ◌≡◌ {A = Name × Command} (a, d) (app, c) = λ i. (h.1.0 i, h.1.1 i) in
-    let declared : IsDeclared sys a d = record { listed = listed.0; declared = h.0 } in
-    (subst (λ p. IsDeclared sys p.0 p.1) same declared, h.1)
+fitting-asks : (sys : System) (app : Name) (c : Command) (r : Request) → fitting sys app c ≡ asks r → IsDeclared sys app c × (request.Do app c ≡ r)
+fitting-asks sys app c r is =
+    let listed = asked-if (has_class (app_named sys.apps app) c.class) (of_definition (command_named sys c.class c.name) app c) fault.Unknown r is in
+    let h = defined-asks (command_named sys c.class c.name) app c r listed.1 in
+    let declared : IsDeclared sys app c = record { listed = listed.0; declared = h.0 } in
+    (declared, h.1)
 
-pub asked-of : (sys : System) (o : Option (Name × Command)) (app : Name) (c : Command) → asked_of sys o ≡ asks app c → IsDeclared sys app c × (o ≡ Some (app, c))
-asked-of sys None app c is = absurd (cc is)
-asked-of sys (Some p) app c is = let h = fitting-asks sys p.0 app p.1 c is in (h.0, λ i. Some (h.1.0 i, h.1.1 i))
+app-asks : (sys : System) (app : Name) (q r : Request) → of_app sys app q ≡ asks r → IsApp sys app × (q ≡ r)
+app-asks sys app q r is = let h = asked-if (is_some (app_named sys.apps app)) (asks q) fault.Unknown r is in (h.0, ap (request_or q) h.1)
+
+pub asked-one : (sys : System) (q r : Request) → asked_of sys (Some q) ≡ asks r → IsOfSystem sys q × (q ≡ r)
+asked-one sys (request.Do app c) r is = fitting-asks sys app c r is
+asked-one sys (request.Get app id version) r is = app-asks sys app (request.Get app id version) r is
+asked-one sys (request.Log app section) r is = app-asks sys app (request.Log app section) r is
+asked-one sys (request.Tracking app leader) r is =
+    app-asks sys app (request.Tracking app leader) r (asked-if (leads sys leader app) (of_app sys app (request.Tracking app leader)) fault.Unknown r is).1
+asked-one sys request.Sync r is = (tt, ap (request_or r) is)
+asked-one sys request.Stop r is = (tt, ap (request_or r) is)
+
+pub asked-of : (sys : System) (o : Option Request) (r : Request) → asked_of sys o ≡ asks r → IsOfSystem sys r × (o ≡ Some r)
+asked-of sys None r is = absurd (cc is)
+asked-of sys (Some q) r is = let h = asked-one sys q r is in (subst (IsOfSystem sys) h.1 h.0, ap (λ s. Some s) h.1)
+
+-- what a line asks is of the system
+pub of-system : (sys : System) (line : List ℕ) (r : Request) → request_in sys line ≡ asks r → IsOfSystem sys r
+of-system sys line r is = (asked-of sys _ r is).0
 
 -- a command that is asked is one of the application
-pub declared : (sys : System) (line : List ℕ) (app : Name) (c : Command) → request_in sys line ≡ asks app c → IsDeclared sys app c
-declared sys line app c is = (asked-of sys _ app c is).0
+pub declared : (sys : System) (line : List ℕ) (app : Name) (c : Command) → request_in sys line ≡ asks (request.Do app c) → IsDeclared sys app c
+declared sys line app c is = of-system sys line (request.Do app c) is
 
 -- ---- and what is declared is asked
 
-defined : (o : Option (Class × CommandDef)) (app : Name) (c : Command) → IsOfCommand o c.args → of_definition o app c ≡ asks app c
+defined : (o : Option (Class × CommandDef)) (app : Name) (c : Command) → IsOfCommand o c.args → of_definition o app c ≡ asks (request.Do app c)
 defined None app c is = absurd is
 defined (Some p) app c is = rw is refl
 
-pub asks-fitting : (sys : System) (app : Name) (c : Command) → IsDeclared sys app c → fitting sys app c ≡ asks app c
+pub asks-fitting : (sys : System) (app : Name) (c : Command) → IsDeclared sys app c → fitting sys app c ≡ asks (request.Do app c)
 asks-fitting sys app c d =
     ap (λ b. if b then of_definition (command_named sys c.class c.name) app c else refused fault.Unknown) d.listed
     ∙ defined (command_named sys c.class c.name) app c d.declared
@@ -84,17 +98,25 @@ here x xs = (0, omega arith, refl)
 there : {A : Type 0} (x y : A) (xs : List A) → Contains xs x → Contains (y ∷ xs) x
 there x y xs h = (suc h.0, omega (arith, h.1), h.2)
 
-named-step : (b : Bool) (a : App) (apps : List App) (name class : Name) → bytes_eq a.name name ≡ b → IsTrue (has_class (cond b (Some a) (app_named apps name)) class)
-    → (IsTrue (has_class (app_named apps name) class) → Contains (map (λ (x : App). x.name) apps) name) → Contains (map (λ (x : App). x.name) (a ∷ apps)) name
-named-step true a apps name class same has rest = subst (λ n. Contains (n ∷ map (λ (x : App). x.name) apps) name) (sym ((bytes_eq-Decides a.name name).0 same)) (here name _)
-named-step false a apps name class same has rest = there name a.name _ (rest has)
+named-step : (b : Bool) (a : App) (apps : List App) (name : Name) → bytes_eq a.name name ≡ b → IsTrue (is_some (cond b (Some a) (app_named apps name)))
+    → (IsTrue (is_some (app_named apps name)) → Contains (map (λ (x : App). x.name) apps) name) → Contains (map (λ (x : App). x.name) (a ∷ apps)) name
+named-step true a apps name same has rest = subst (λ n. Contains (n ∷ map (λ (x : App). x.name) apps) name) (sym ((bytes_eq-Decides a.name name).0 same)) (here name _)
+named-step false a apps name same has rest = there name a.name _ (rest has)
 
-name-of : (apps : List App) (name class : Name) → IsTrue (has_class (app_named apps name) class) → Contains (map (λ (a : App). a.name) apps) name
-name-of [] name class has = absurd (cc has)
-name-of (a ∷ apps) name class has = named-step (bytes_eq a.name name) a apps name class refl has (name-of apps name class)
+name-of : (apps : List App) (name : Name) → IsTrue (is_some (app_named apps name)) → Contains (map (λ (a : App). a.name) apps) name
+name-of [] name has = absurd (cc has)
+name-of (a ∷ apps) name has = named-step (bytes_eq a.name name) a apps name refl has (name-of apps name)
 
-pub named : (sys : System) (line : List ℕ) (app : Name) (c : Command) → request_in sys line ≡ asks app c → Contains (map (λ (a : App). a.name) sys.apps) app
-named sys line app c is = name-of sys.apps app c.class (declared sys line app c is).listed
+-- the name of an application is among the names of all
+pub named-app : (sys : System) (app : Name) → IsApp sys app → Contains (map (λ (a : App). a.name) sys.apps) app
+named-app sys app is = name-of sys.apps app is
+
+with-class-there : (o : Option App) (class : Name) → IsTrue (has_class o class) → IsTrue (is_some o)
+with-class-there None class has = absurd (cc has)
+with-class-there (Some a) class has = refl
+
+pub named : (sys : System) (line : List ℕ) (app : Name) (c : Command) → request_in sys line ≡ asks (request.Do app c) → Contains (map (λ (a : App). a.name) sys.apps) app
+named sys line app c is = named-app sys app (with-class-there (app_named sys.apps app) c.class (declared sys line app c is).listed)
 
 -- ---- the names of a declared command
 
@@ -153,9 +175,14 @@ upper-names sys app c checked declared = with-class sys (class_named sys.classes
 
 -- an application that has the class answers by the command's definition
 pub tests-listed : (sys : System) (app : Name) (c : Command) (r : Result (Unit {0}) LineFault) → has_class (app_named sys.apps app) c.class ≡ true
-    → Tests (of_definition (command_named sys c.class c.name) app c) app c r → Tests (fitting sys app c) app c r
+    → Tests (of_definition (command_named sys c.class c.name) app c) (request.Do app c) r → Tests (fitting sys app c) (request.Do app c) r
 tests-listed sys app c r listed tests =
-    subst (λ q. Tests q app c r) (ap (λ b. if b then of_definition (command_named sys c.class c.name) app c else refused fault.Unknown) (sym listed)) tests
+    subst (λ q. Tests q (request.Do app c) r) (ap (λ b. if b then of_definition (command_named sys c.class c.name) app c else refused fault.Unknown) (sym listed)) tests
+
+-- so does one that is led
+pub tests-led : (sys : System) (app leader : Name) (r : Result (Unit {0}) LineFault) → leads sys leader app ≡ true → Tests (of_app sys app (request.Tracking app leader)) (request.Tracking app leader) r → Tests (asked_of sys (Some (request.Tracking app leader))) (request.Tracking app leader) r
+tests-led sys app leader r led tests =
+    subst (λ q. Tests q (request.Tracking app leader) r) (ap (λ b. if b then of_app sys app (request.Tracking app leader) else refused fault.Unknown) (sym led)) tests
 
 record-fault : (d : Data) (f : DecodeFault) → Decodes (λ (r : Record). IsRecordTree r d) (IsRecordFault d) (Err f) → Reads (record_in d) (Err (fault_of f))
 record-fault d decode.NotJson faults = no-record d decode.NotJson faults

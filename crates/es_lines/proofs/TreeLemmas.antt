@@ -1,5 +1,5 @@
 -- Laws of the tree of a command.
-use Rattle.std.proofs.Common.{rules, String, Global, string_bytes, ◌≡◌, ◌∙◌, ◌≤◌, ℕ, pos, negsuc, Bool, false, IsTrue, List, [], ◌∷◌, codes, Option, Some, None, option_map, IsUtf8, if◌then◌else◌, refl, sym, ap, subst, arith}
+use Rattle.std.proofs.Common.{rules, String, Global, string_bytes, ◌≡◌, ◌∙◌, ◌≤◌, ℕ, pos, negsuc, false, IsTrue, List, [], ◌∷◌, codes, Option, Some, None, option_map, IsUtf8, if◌then◌else◌, refl, sym, ap, subst, arith}
 use Rattle.std.proofs.lemmas.Str.{is_utf8-from_IsUtf8}
 use Rattle.uuid.specs.Text.{simple_text, lower, parsed}
 use Rattle.serde_json.specs.Data.{Data, string, object, Members, no_members, member, put, depth, items_depth, members_depth}
@@ -22,7 +22,9 @@ use Rattle.es_transcode.proofs.DecodedLemmas.{record-of-tree}
 use Rattle.es_domain.specs.declared.command.Command.{Command}
 use Rattle.es_lines.specs.CommandText.{command_tree, with_expected, is_absent_or_expectable}
 use Rattle.es_lines.specs.inner.Parts.{put_expected}
-use Rattle.es_lines.specs.Requests.{and_then, if_expectable, is_expectable, spelled, asks, asked_of, request_in, IsDeclared}
+use Rattle.es_lines.specs.Requests.{and_then, number_if, is_expectable, spelled, asks, asked_of, request_in, IsDeclared}
+use Rattle.es_lines.specs.declared.request.Request.{Request}
+use Rattle.es_lines.specs.declared.request.Request.TheVariants.{Do}
 use Rattle.es_lines.proofs.RequestLemmas.{asks-fitting}
 
 -- ---- it is read as the command
@@ -33,17 +35,17 @@ target_of n i = and_then n (λ n. and_then i (λ i. Some (n, i)))
 abbrev command_of : Option ((Name × Name) × Id) → Option Record → Option (Option ℕ) → Option Command
 command_of t a v = and_then t (λ t. and_then a (λ a. and_then v (λ v. Some (record { class = t.0.0; name = t.0.1; id = t.1; args = a; expect = v }))))
 
-abbrev members_of : Name → Option Command → Option (Name × Command)
-members_of app c = and_then c (λ c. Some (app, c))
+abbrev request_of : Name → Option Command → Option Request
+request_of app c = and_then c (λ c. Some (Do app c))
 
-abbrev of_parts : Name → Option (Name × Name) → Option Id → Option Record → Option (Option ℕ) → Option (Name × Command)
-of_parts app n i a v = members_of app (command_of (target_of n i) a v)
+abbrev of_parts : Name → Option (Name × Name) → Option Id → Option Record → Option (Option ℕ) → Option Request
+of_parts app n i a v = request_of app (command_of (target_of n i) a v)
 
 whole : (app : Name) (c : Command) (n : Option (Name × Name)) (i : Option Id) (a : Option Record) (v : Option (Option ℕ)) → n ≡ Some (c.class, c.name) → i ≡ Some c.id → a ≡ Some c.args → v ≡ Some c.expect
-    → of_parts app n i a v ≡ Some (app, c)
+    → of_parts app n i a v ≡ Some (Do app c)
 whole app c n i a v names id args expect = λ j. of_parts app (names j) (id j) (args j) (expect j)
 
-expected-is : (n : ℕ) → IsTrue (is_expectable n) → if_expectable (Some n) ≡ Some n
+expected-is : (n : ℕ) → IsTrue (is_expectable n) → number_if is_expectable (Some n) ≡ Some n
 expected-is n is = rw is refl
 
 abbrev pub tree_with : Name → Command → Option ℕ → Data
@@ -56,7 +58,7 @@ tree_with app c v = object
     no_members)))))
 
 spelled-with : (app : Name) (c : Command) (v : Option ℕ) → c.expect ≡ v → IsTrue (is_absent_or_expectable v) → halves (topic_of c.class c.name) ≡ Some (c.class, c.name) → parsed (simple_text lower c.id) ≡ Some c.id
-    → record_in (record_tree c.args) ≡ Some c.args → spelled (tree_with app c v) ≡ Some (app, c)
+    → record_in (record_tree c.args) ≡ Some c.args → spelled (tree_with app c v) ≡ Some (Do app c)
 spelled-with app c None same fits names id args = whole app c _ _ _ _ names id args (ap (λ v. Some v) (sym same))
 spelled-with app c (Some n) same fits names id args =
     whole app c _ _ _ _ names id args (ap (option_map (λ v. Some v)) (expected-is n fits) ∙ ap (λ v. Some v) (sym same))
@@ -68,14 +70,14 @@ pub record IsWritable (c : Command) : Type 0 where
   pub args : record_in (record_tree c.args) ≡ Some c.args
   pub expect : IsTrue (is_absent_or_expectable c.expect)
 
-pub spelled-tree : (app : Name) (c : Command) → IsWritable c → spelled (command_tree app c) ≡ Some (app, c)
+pub spelled-tree : (app : Name) (c : Command) → IsWritable c → spelled (command_tree app c) ≡ Some (Do app c)
 spelled-tree app c w = spelled-with app c c.expect refl w.expect w.names w.id w.args
 
 read-text : (text : List ℕ) (d : Data) → IsUtf8 text → read text ≡ Some d → tree_in text ≡ Some d
 read-text text d utf8 is = ap (λ b. if b then read text else None) (is_utf8-from_IsUtf8 text utf8) ∙ is
 
 -- a text of the tree asks for the command
-pub asked-by : (sys : System) (app : Name) (c : Command) (text : List ℕ) → IsUtf8 text → read text ≡ Some (command_tree app c) → IsWritable c → IsDeclared sys app c → request_in sys text ≡ asks app c
+pub asked-by : (sys : System) (app : Name) (c : Command) (text : List ℕ) → IsUtf8 text → read text ≡ Some (command_tree app c) → IsWritable c → IsDeclared sys app c → request_in sys text ≡ asks (Do app c)
 asked-by sys app c text utf8 is w declared =
     ap (λ o. asked_of sys (and_then o spelled)) (read-text text (command_tree app c) utf8 is) ∙ ap (asked_of sys) (spelled-tree app c w) ∙ asks-fitting sys app c declared
 
@@ -99,7 +101,7 @@ exact-value : (v : Value) → has_float (value_tree v) ≡ false
 exact-value (value.One a) = exact-atom a
 exact-value (value.List items) = exact-items items
 
-exact-members : (r : Record) → members_have_float (member_trees r) ≡ false
+pub exact-members : (r : Record) → members_have_float (member_trees r) ≡ false
 exact-members [] = refl
 exact-members (x ∷ xs) = rw (exact-value x.1) (exact-members xs)
 

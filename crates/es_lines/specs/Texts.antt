@@ -1,10 +1,16 @@
 -- The texts of replies and of the end line: the canonical texts of trees.
-use Rattle.std.specs.Prelude.{ℕ, Bool, true, false, List, [], ◌∷◌, codes}
-use Rattle.serde_json.specs.Data.{Data, unsigned, number, string, object, Members, no_members, member}
+use Rattle.std.specs.Prelude.{ℕ, Bool, true, false, List, [], ◌∷◌, ◌++◌, codes, decimal, if◌then◌else◌, Option, None, Some}
+use Rattle.std.specs.Str.{is_utf8}
+use Rattle.hex.specs.Hex.{encode_lower}
+use Rattle.uuid.specs.Text.{simple_text, lower}
+use Rattle.serde_json.specs.Data.{Data, unsigned, null, number, string, array, object, Items, no_items, item, Members, no_members, member}
 use Rattle.serde_json.specs.Written.{compact_text}
 use Rattle.es_model.specs.Values.{Name}
 use Rattle.es_model.specs.declared.declaration.Code.{Code}
 use Rattle.es_model.specs.declared.declaration.Code.TheVariants as code
+use Rattle.es_model.specs.declared.event.Notification.{Notification}
+use Rattle.es_transcode.specs.CanonicalText.{record_tree}
+use Rattle.es_transcode.specs.MomentText.{moment_text}
 use Rattle.es_lines.specs.declared.replies.Reply.{Reply}
 use Rattle.es_lines.specs.declared.replies.Reply.TheVariants as reply
 use Rattle.es_lines.specs.declared.ends.End.{End}
@@ -21,6 +27,34 @@ count name n ms = member name (number (unsigned n)) ms
 -- an object whose only member is a text
 abbrev pub lone : List ℕ → List ℕ → Data
 lone name s = object (text name s no_members)
+
+-- ---- the entries of a log
+
+-- the first and the last id of a section
+abbrev pub span_tree : Option (ℕ × ℕ) → Data
+span_tree None = null
+span_tree (Some s) = string (decimal s.0 ++ codes "," ++ decimal s.1)
+
+-- a state as it is, or its bytes in hexadecimal digits where it is no UTF-8
+abbrev pub state_name : List ℕ → List ℕ
+state_name bytes = if is_utf8 bytes then codes "state" else codes "state_hex"
+
+abbrev pub state_text : List ℕ → List ℕ
+state_text bytes = if is_utf8 bytes then bytes else encode_lower bytes
+
+abbrev pub entry_tree : Notification → Data
+entry_tree n =
+    object
+    (count (codes "id") n.id
+    (text (codes "originator_id") (simple_text lower n.event.originator_id)
+    (count (codes "originator_version") n.event.originator_version
+    (text (state_name n.event.state) (state_text n.event.state)
+    (text (codes "topic") n.event.topic
+    no_members)))))
+
+abbrev pub entry_trees : List Notification → Items
+entry_trees [] = no_items
+entry_trees (n ∷ ns) = item (entry_tree n) (entry_trees ns)
 
 -- ---- the reply to a line
 
@@ -39,6 +73,28 @@ reply_tree reply.Unknown = lone (codes "error") (codes "unknown")
 reply_tree reply.Kind = lone (codes "error") (codes "kind")
 reply_tree reply.Long = lone (codes "error") (codes "long")
 reply_tree (reply.Conflict latest) = object (text (codes "error") (codes "conflict") (count (codes "latest") latest no_members))
+reply_tree (reply.Got id version class created_on modified_on fields) =
+    object
+    (text (codes "class") class
+    (text (codes "created_on") (moment_text created_on)
+    (member (codes "fields") (record_tree fields)
+    (text (codes "id") (simple_text lower id)
+    (text (codes "modified_on") (moment_text modified_on)
+    (text (codes "ok") (codes "get")
+    (count (codes "version") version
+    no_members)))))))
+reply_tree (reply.Log id items next) =
+    object
+    (member (codes "id") (span_tree id)
+    (member (codes "items") (array (entry_trees items))
+    (member (codes "next") (span_tree next)
+    (text (codes "ok") (codes "log")
+    no_members))))
+reply_tree (reply.Tracking position) = object (text (codes "ok") (codes "tracking") (count (codes "position") position no_members))
+reply_tree reply.Sync = lone (codes "ok") (codes "sync")
+reply_tree reply.Stop = lone (codes "ok") (codes "stop")
+reply_tree reply.NotFound = lone (codes "error") (codes "not-found")
+reply_tree reply.Section = lone (codes "error") (codes "section")
 reply_tree (reply.Unreadable app id) = object (text (codes "app") app (text (codes "error") (codes "unreadable") (count (codes "id") id no_members)))
 
 abbrev pub reply_text : Reply → List ℕ

@@ -1,4 +1,4 @@
-ghost use Rattle.std.specs.Prelude.{◌≡◌, IfOk, option_map, codes};
+ghost use Rattle.std.specs.Prelude.{◌≡◌, ◌&&◌, [], ◌∷◌, map, Some, IfOk, option_map, codes};
 ghost use Rattle.std.specs.Option.{option_copied};
 ghost use Rattle.serde_json.specs.Find.{get};
 ghost use Rattle.serde_json.specs.View.{view, members_view};
@@ -12,7 +12,9 @@ ghost use Rattle.es_lines.specs.inner.Parts.{Reads, Tests};
 ghost use Rattle.es_lines.specs.Requests as spec;
 ghost use Rattle.es_lines.specs.inner.Parts as parts;
 ghost use Rattle.es_lines.specs.declared.fault.LineFault.TheVariants as faults;
+ghost use Rattle.es_lines.specs.declared.request.Request.{Request};
 ghost use Rattle.es_lines.specs.declared.request.Request.TheVariants as requests;
+ghost use Rattle.es_expr.specs.Misfits as misfits;
 
 use crate::{LineFault, Request};
 use es_domain::Command;
@@ -25,30 +27,40 @@ use std::alloc::Global;
 use std::collections::BTreeMap;
 use uuid::Uuid;
 
-fn is_member(name: &str) -> bool
-    ensures { result ≡ spec.is_member name.now }
+fn is_among(names: &[&str], name: &str) -> bool
+    ensures { result ≡ is_one_of (map (λ n. n.now) names.now) name.now }
 {
-    name == "app" || name == "args" || name == "do" || name == "expect" || name == "id"
+    match names {
+        [] => false,
+        [first, rest @ ..] => name == *first || is_among(rest, name),
+    }
 }
 
-fn are_members(members: &BTreeMap<String, Value>) -> bool
-    ensures { result ≡ spec.are_members (members_view members.now.entries) }
+fn are_members(members: &BTreeMap<String, Value>, names: &[&str]) -> bool
+    ensures { result ≡ spec.are_members (map (λ n. n.now) names.now) (members_view members.now.entries) }
 {
     for (name, _) in members.iter() {
-        if !is_member(name.as_str()) {
+        if !is_among(names, name.as_str()) {
             return false;
         }
     }
     true
 }
 
-fn has_form(tree: &Value) -> bool
-    ensures { result ≡ spec.has_form (view tree.now) }
+// Whether a tree is an object with no member but these.
+fn has_only(tree: &Value, names: &[&str]) -> bool
+    ensures { result ≡ spec.has_only (map (λ n. n.now) names.now) (view tree.now) }
 {
     match tree {
-        Value::Object(members) => are_members(members),
+        Value::Object(members) => are_members(members, names),
         _ => false,
     }
+}
+
+fn has(tree: &Value, name: &str) -> bool
+    ensures { result ≡ spec.has name.now (view tree.now) }
+{
+    tree.get(name).is_some()
 }
 
 // The text of a member.
@@ -64,29 +76,29 @@ fn names_in(tree: &Value) -> Option<(&str, &str)>
     halves(text_in(tree, "do")?)
 }
 
-fn id_in(tree: &Value) -> Option<Uuid>
-    ensures { result ≡ spec.id (view tree.now) }
+fn id_in(tree: &Value, name: &str) -> Option<Uuid>
+    ensures { result ≡ spec.id_of name.now (view tree.now) }
 {
-    id_of(text_in(tree, "id")?)
+    id_of(text_in(tree, name)?)
 }
 
-fn version_in(tree: &Value) -> Option<u64>
-    ensures { result ≡ spec.version_in (view tree.now) }
+fn number_in(tree: &Value, least: u64) -> Option<u64>
+    ensures { result ≡ spec.number_in (parts.is_from least) (view tree.now) }
 {
-    let version = tree.as_u64()?;
-    if version <= MOST_EXPECTED {
-        Some(version)
+    let number = tree.as_u64()?;
+    if least <= number && number <= MOST_EXPECTED {
+        Some(number)
     } else {
         None
     }
 }
 
-// The version that is expected, if the line says one.
-fn expected(tree: &Value) -> Option<Option<u64>>
-    ensures { result ≡ spec.expected (get (codes "expect") (view tree.now)) }
+// The number of a member that may be absent, from a least one to the greatest version.
+fn optional(tree: &Value, name: &str, least: u64) -> Option<Option<u64>>
+    ensures { result ≡ spec.optional (parts.is_from least) (get name.now (view tree.now)) }
 {
-    match tree.get("expect") {
-        Some(version) => Some(Some(version_in(version)?)),
+    match tree.get(name) {
+        Some(number) => Some(Some(number_in(number, least)?)),
         None => Some(None),
     }
 }
@@ -123,7 +135,7 @@ fn target(tree: &Value) -> Option<((&str, &str), Uuid)>
     ensures { option_map (λ t. ((t.0.0.now, t.0.1.now), t.1)) result ≡ spec.target (view tree.now) }
 {
     let names = names_in(tree)?;
-    let id = id_in(tree)?;
+    let id = id_in(tree, "id")?;
     Some((names, id))
 }
 
@@ -134,7 +146,7 @@ fn command(alloc: Global, tree: &Value) -> Result<Command, LineFault>
         return Err(LineFault::Syntax);
     };
     let args = args_in(alloc, tree)?;
-    let Some(expect) = expected(tree) else {
+    let Some(expect) = optional(tree, "expect", 0) else {
         return Err(LineFault::Syntax);
     };
     Ok(Command {
@@ -146,27 +158,134 @@ fn command(alloc: Global, tree: &Value) -> Result<Command, LineFault>
     })
 }
 
-fn members(alloc: Global, tree: &Value) -> Result<(Text, Command), LineFault>
-    ensures { Reads (spec.members (view tree.now)) result }
+fn do_line(alloc: Global, tree: &Value) -> Result<Request, LineFault>
+    ensures { Reads (spec.do_line (view tree.now)) result }
 {
+    if !has_only(tree, &["app", "args", "do", "expect", "id"]) {
+        return Err(LineFault::Syntax);
+    }
     let Some(app) = text_in(tree, "app") else {
         return Err(LineFault::Syntax);
     };
     let command = command(alloc, tree)?;
-    Ok((Text::from_str(alloc, app)?, command))
+    Ok(Request::Do {
+        app: Text::from_str(alloc, app)?,
+        command,
+    })
 }
 
-fn spelled(alloc: Global, tree: &Value) -> Result<(Text, Command), LineFault>
-    ensures { Reads (spec.spelled (view tree.now)) result }
+// The aggregate that is asked for, and at which version.
+fn aggregate(tree: &Value) -> Option<(Uuid, Option<u64>)>
+    ensures { result ≡ spec.aggregate (view tree.now) }
 {
-    if has_form(tree) {
-        members(alloc, tree)
+    let id = id_in(tree, "get")?;
+    let version = optional(tree, "version", 1)?;
+    Some((id, version))
+}
+
+fn get_line(alloc: Global, tree: &Value) -> Result<Request, LineFault>
+    ensures { Reads (spec.get_line (view tree.now)) result }
+{
+    if !has_only(tree, &["app", "get", "version"]) {
+        return Err(LineFault::Syntax);
+    }
+    let Some(app) = text_in(tree, "app") else {
+        return Err(LineFault::Syntax);
+    };
+    let Some((id, version)) = aggregate(tree) else {
+        return Err(LineFault::Syntax);
+    };
+    Ok(Request::Get {
+        app: Text::from_str(alloc, app)?,
+        id,
+        version,
+    })
+}
+
+// The application and another text of a line, if both are there.
+fn app_and<'a>(tree: &'a Value, name: &str) -> Option<(&'a str, &'a str)>
+    ensures { option_map (λ t. (t.0.now, t.1.now)) result ≡ spec.app_and name.now (view tree.now) }
+{
+    let app = text_in(tree, "app")?;
+    let other = text_in(tree, name)?;
+    Some((app, other))
+}
+
+fn log_line(alloc: Global, tree: &Value) -> Result<Request, LineFault>
+    ensures { Reads (spec.log_line (view tree.now)) result }
+{
+    if !has_only(tree, &["app", "log"]) {
+        return Err(LineFault::Syntax);
+    }
+    let Some((app, section)) = app_and(tree, "log") else {
+        return Err(LineFault::Syntax);
+    };
+    Ok(Request::Log {
+        app: Text::from_str(alloc, app)?,
+        section: Text::from_str(alloc, section)?,
+    })
+}
+
+fn tracking_line(alloc: Global, tree: &Value) -> Result<Request, LineFault>
+    ensures { Reads (spec.tracking_line (view tree.now)) result }
+{
+    if !has_only(tree, &["app", "tracking"]) {
+        return Err(LineFault::Syntax);
+    }
+    let Some((app, leader)) = app_and(tree, "tracking") else {
+        return Err(LineFault::Syntax);
+    };
+    Ok(Request::Tracking {
+        app: Text::from_str(alloc, app)?,
+        leader: Text::from_str(alloc, leader)?,
+    })
+}
+
+fn is_true(tree: Option<&Value>) -> bool
+    ensures { result ≡ spec.is_true (option_map (λ v. view v.now) tree.entry) }
+{
+    match tree {
+        Some(Value::Bool(truth)) => *truth,
+        _ => false,
+    }
+}
+
+// Whether a word, which is true, is all that a line has.
+fn is_word(tree: &Value, word: &str) -> bool
+    ensures { result ≡ (spec.has_only (word.now ∷ []) (view tree.now) && spec.is_true (get word.now (view tree.now))) }
+{
+    has_only(tree, &[word]) && is_true(tree.get(word))
+}
+
+fn word_line(tree: &Value, word: &str, request: Request) -> Result<Request, LineFault>
+    ensures { Reads (spec.word_line word.now request (view tree.now)) result }
+{
+    if is_word(tree, word) {
+        Ok(request)
     } else {
         Err(LineFault::Syntax)
     }
 }
 
-fn spelled_in(alloc: Global, bytes: &[u8]) -> Result<(Text, Command), LineFault>
+fn spelled(alloc: Global, tree: &Value) -> Result<Request, LineFault>
+    ensures { Reads (spec.spelled (view tree.now)) result }
+{
+    if has(tree, "do") {
+        do_line(alloc, tree)
+    } else if has(tree, "get") {
+        get_line(alloc, tree)
+    } else if has(tree, "log") {
+        log_line(alloc, tree)
+    } else if has(tree, "tracking") {
+        tracking_line(alloc, tree)
+    } else if has(tree, "sync") {
+        word_line(tree, "sync", Request::Sync)
+    } else {
+        word_line(tree, "stop", Request::Stop)
+    }
+}
+
+fn spelled_in(alloc: Global, bytes: &[u8]) -> Result<Request, LineFault>
     ensures { Reads (spec.and_then (tree_in bytes.now) spec.spelled) result }
 {
     match read_tree(alloc, bytes)? {
@@ -202,7 +321,7 @@ fn definition<'a>(sys: &'a System, command: &Command) -> Option<&'a CommandDef>
 }
 
 fn test_arguments(sys: &System, command: &Command) -> Result<(), LineFault>
-    ensures { (app : Name) → Tests (spec.of_definition (command_named sys.now command.now.class command.now.name) app command.now) app command.now result }
+    ensures { (app : Name) → Tests (spec.of_definition (command_named sys.now command.now.class command.now.name) app command.now) (requests.Do app command.now) result }
 {
     match definition(sys, command) {
         Some(definition) => {
@@ -218,7 +337,7 @@ fn test_arguments(sys: &System, command: &Command) -> Result<(), LineFault>
 
 // Finds why a command isn't one of an application.
 fn test_fitting(sys: &System, app: &Text, command: &Command) -> Result<(), LineFault>
-    ensures { Tests (spec.fitting sys.now app.now command.now) app.now command.now result }
+    ensures { Tests (spec.fitting sys.now app.now command.now) (requests.Do app.now command.now) result }
 {
     if is_listed(sys, app, command) {
         test_arguments(sys, command)
@@ -227,12 +346,78 @@ fn test_fitting(sys: &System, app: &Text, command: &Command) -> Result<(), LineF
     }
 }
 
+fn test_app(sys: &System, app: &Text) -> Result<(), LineFault>
+    ensures { (request : Request) → Tests (spec.of_app sys.now app.now request) request result }
+{
+    match sys.app(app.as_str()) {
+        Some(_) => Ok(()),
+        None => Err(LineFault::Unknown),
+    }
+}
+
+// Whether the first of some names is a name.
+fn is_first(names: &[Text], name: &str) -> bool
+    ensures { result ≡ misfits.is_first names.now name.now }
+{
+    match names {
+        [] => false,
+        [first, ..] => first.as_str() == name,
+    }
+}
+
+// Whether a name comes right before another.
+fn is_next(leader: &str, follower: &str, names: &[Text]) -> bool
+    ensures { result ≡ misfits.is_next leader.now follower.now names.now }
+{
+    match names {
+        [] => false,
+        [first, rest @ ..] => {
+            (first.as_str() == leader && is_first(rest, follower))
+                || is_next(leader, follower, rest)
+        }
+    }
+}
+
+// Whether an application leads another in some pipe.
+fn leads(sys: &System, leader: &str, follower: &str) -> bool
+    ensures { result ≡ misfits.leads sys.now leader.now follower.now }
+{
+    sys.pipes
+        .as_slice()
+        .iter()
+        .any(|pipe| is_next(leader, follower, pipe.as_slice()))
+}
+
+fn test_leader(sys: &System, app: &Text, leader: &Text) -> Result<(), LineFault>
+    ensures { Tests (spec.asked_of sys.now (Some (requests.Tracking app.now leader.now))) (requests.Tracking app.now leader.now) result }
+{
+    if leads(sys, leader.as_str(), app.as_str()) {
+        test_app(sys, app)
+    } else {
+        Err(LineFault::Unknown)
+    }
+}
+
+// Finds why a request names what isn't declared.
+fn test(sys: &System, request: &Request) -> Result<(), LineFault>
+    ensures { Tests (spec.asked_of sys.now (Some request.now)) request.now result }
+{
+    match request {
+        Request::Do { app, command } => test_fitting(sys, app, command),
+        Request::Get { app, .. } => test_app(sys, app),
+        Request::Log { app, .. } => test_app(sys, app),
+        Request::Tracking { app, leader } => test_leader(sys, app, leader),
+        Request::Sync => Ok(()),
+        Request::Stop => Ok(()),
+    }
+}
+
 /// What a line asks of a system.
 pub fn read_line(alloc: Global, sys: &System, bytes: &[u8]) -> Result<Request, LineFault>
     ensures request { Answers (request_in sys.now bytes.now) result }
     ensures declared { IfOk result (IsOfSystem sys.now) }
 {
-    let (app, command) = spelled_in(alloc, bytes)?;
-    test_fitting(sys, &app, &command)?;
-    Ok(Request::Do { app, command })
+    let request = spelled_in(alloc, bytes)?;
+    test(sys, &request)?;
+    Ok(request)
 }

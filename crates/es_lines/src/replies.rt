@@ -1,13 +1,13 @@
-ghost use Rattle.std.specs.Prelude.{◌≡◌, IfOk, OnOk, codes};
-ghost use Rattle.json.specs.Tree.{json_tokens};
-ghost use Rattle.serde_json.specs.Written.{outline};
-ghost use Rattle.es_lines.specs.inner.Objects.{Adds};
+ghost use Rattle.std.specs.Prelude.{◌≡◌, IfOk};
+ghost use Rattle.serde_json.specs.Written.{compact_text};
 ghost use Rattle.es_lines.specs.Texts as spec;
 
-use crate::objects::{put_number, put_text};
-use es_model::{Bytes, NoMemory, Text};
-use json::Writer;
-use std::alloc::{AllocError, Global};
+use crate::aggregates::got_text;
+use crate::objects::{begun, ended, put_number, put_text};
+use crate::sections::log_text;
+use es_model::{Bytes, Fields, Moment, NoMemory, Notifications, Text};
+use std::alloc::Global;
+use uuid::Uuid;
 
 /// The reply to a line.
 #[derive(Debug, Drop)]
@@ -23,9 +23,37 @@ pub enum Reply {
     Refused {
         code: Text,
     },
+    /// An aggregate at a version: its class, when its first and its last event until then were decided, and its fields.
+    Got {
+        id: Uuid,
+        version: u64,
+        class: Text,
+        created_on: Moment,
+        modified_on: Moment,
+        fields: Fields,
+    },
+    /// A section of a notification log: the ids of its first and last notification, its
+    /// notifications, and the first and last id of the section after it, where they are.
+    Log {
+        id: Option<(u64, u64)>,
+        items: Notifications,
+        next: Option<(u64, u64)>,
+    },
+    /// The id of the leader's last notification that was processed, or 0.
+    Tracking {
+        position: u64,
+    },
+    /// The followers have reached their leaders.
+    Sync,
+    /// No further line is answered.
+    Stop,
+    /// The aggregate has no event.
+    NotFound,
+    /// The text says no section.
+    Section,
     /// The line is no request.
     Syntax,
-    /// The application isn't declared, or has no such command.
+    /// The application isn't declared, has no such command, or isn't led by such a leader.
     Unknown,
     /// The arguments aren't those of the command, or one doesn't fit.
     Kind,
@@ -46,81 +74,104 @@ pub enum Reply {
 pub fn reply_text(alloc: Global, reply: &Reply) -> Result<Bytes, NoMemory>
     ensures { IfOk result (λ text. text ≡ spec.reply_text reply.now) }
 {
-    let mut out = Writer::new(Vec::with_capacity(alloc, 96)?);
-    write_reply(&mut out, reply)?;
-    Ok(Bytes::from_vec(out.into_inner()))
-}
-
-fn write_reply(out: &mut Writer, reply: &Reply) -> Result<(), AllocError>
-    ensures { OnOk result (Adds out.old out.new (json_tokens (outline (spec.reply_tree reply.now)))) }
-{
     match reply {
         Reply::Accepted {
             recording,
             first,
             last,
             version,
-        } => write_accepted(out, *recording, *first, *last, *version),
-        Reply::Refused { code } => write_refused(out, code),
-        Reply::Syntax => write_error(out, "syntax"),
-        Reply::Unknown => write_error(out, "unknown"),
-        Reply::Kind => write_error(out, "kind"),
-        Reply::Long => write_error(out, "long"),
-        Reply::Conflict { latest } => write_conflict(out, *latest),
-        Reply::Unreadable { app, id } => write_unreadable(out, app, *id),
+        } => accepted_text(alloc, *recording, *first, *last, *version),
+        Reply::Refused { code } => refused_text(alloc, code),
+        Reply::Got {
+            id,
+            version,
+            class,
+            created_on,
+            modified_on,
+            fields,
+        } => got_text(
+            alloc,
+            id,
+            *version,
+            class,
+            *created_on,
+            *modified_on,
+            fields,
+        ),
+        Reply::Log { id, items, next } => log_text(alloc, *id, items, *next),
+        Reply::Tracking { position } => tracking_text(alloc, *position),
+        Reply::Sync => lone_text(alloc, "ok", "sync"),
+        Reply::Stop => lone_text(alloc, "ok", "stop"),
+        Reply::NotFound => lone_text(alloc, "error", "not-found"),
+        Reply::Section => lone_text(alloc, "error", "section"),
+        Reply::Syntax => lone_text(alloc, "error", "syntax"),
+        Reply::Unknown => lone_text(alloc, "error", "unknown"),
+        Reply::Kind => lone_text(alloc, "error", "kind"),
+        Reply::Long => lone_text(alloc, "error", "long"),
+        Reply::Conflict { latest } => conflict_text(alloc, *latest),
+        Reply::Unreadable { app, id } => unreadable_text(alloc, app, *id),
     }
 }
 
-fn write_accepted(
-    out: &mut Writer,
+fn accepted_text(
+    alloc: Global,
     recording: u64,
     first: u64,
     last: u64,
     version: u64,
-) -> Result<(), AllocError>
-    ensures { OnOk result (Adds out.old out.new (json_tokens (outline (spec.reply_tree (Reply.Accepted recording first last version))))) }
+) -> Result<Bytes, NoMemory>
+    ensures { IfOk result (λ text. text ≡ spec.reply_text (Reply.Accepted recording first last version)) }
 {
-    out.begin_object()?;
-    put_number(out, "first", first)?;
-    put_number(out, "last", last)?;
-    put_text(out, "ok", "do")?;
-    put_number(out, "recording", recording)?;
-    put_number(out, "version", version)?;
-    out.end_object()
+    let mut out = begun(alloc)?;
+    put_number(&mut out, "first", first)?;
+    put_number(&mut out, "last", last)?;
+    put_text(&mut out, "ok", "do")?;
+    put_number(&mut out, "recording", recording)?;
+    put_number(&mut out, "version", version)?;
+    ended(out)
 }
 
-fn write_refused(out: &mut Writer, code: &Text) -> Result<(), AllocError>
-    ensures { OnOk result (Adds out.old out.new (json_tokens (outline (spec.reply_tree (Reply.Refused code.now))))) }
+fn refused_text(alloc: Global, code: &Text) -> Result<Bytes, NoMemory>
+    ensures { IfOk result (λ text. text ≡ spec.reply_text (Reply.Refused code.now)) }
 {
-    out.begin_object()?;
-    put_text(out, "code", code.as_str())?;
-    put_text(out, "error", "refused")?;
-    out.end_object()
+    let mut out = begun(alloc)?;
+    put_text(&mut out, "code", code.as_str())?;
+    put_text(&mut out, "error", "refused")?;
+    ended(out)
 }
 
-fn write_error(out: &mut Writer, word: &str) -> Result<(), AllocError>
-    ensures { OnOk result (Adds out.old out.new (json_tokens (outline (spec.lone (codes "error") word.now)))) }
+fn lone_text(alloc: Global, name: &str, word: &str) -> Result<Bytes, NoMemory>
+    ensures { IfOk result (λ text. text ≡ compact_text (spec.lone name.now word.now)) }
 {
-    out.begin_object()?;
-    put_text(out, "error", word)?;
-    out.end_object()
+    let mut out = begun(alloc)?;
+    put_text(&mut out, name, word)?;
+    ended(out)
 }
 
-fn write_conflict(out: &mut Writer, latest: u64) -> Result<(), AllocError>
-    ensures { OnOk result (Adds out.old out.new (json_tokens (outline (spec.reply_tree (Reply.Conflict latest))))) }
+fn tracking_text(alloc: Global, position: u64) -> Result<Bytes, NoMemory>
+    ensures { IfOk result (λ text. text ≡ spec.reply_text (Reply.Tracking position)) }
 {
-    out.begin_object()?;
-    put_text(out, "error", "conflict")?;
-    put_number(out, "latest", latest)?;
-    out.end_object()
+    let mut out = begun(alloc)?;
+    put_text(&mut out, "ok", "tracking")?;
+    put_number(&mut out, "position", position)?;
+    ended(out)
 }
 
-fn write_unreadable(out: &mut Writer, app: &Text, id: u64) -> Result<(), AllocError>
-    ensures { OnOk result (Adds out.old out.new (json_tokens (outline (spec.reply_tree (Reply.Unreadable app.now id))))) }
+fn conflict_text(alloc: Global, latest: u64) -> Result<Bytes, NoMemory>
+    ensures { IfOk result (λ text. text ≡ spec.reply_text (Reply.Conflict latest)) }
 {
-    out.begin_object()?;
-    put_text(out, "app", app.as_str())?;
-    put_text(out, "error", "unreadable")?;
-    put_number(out, "id", id)?;
-    out.end_object()
+    let mut out = begun(alloc)?;
+    put_text(&mut out, "error", "conflict")?;
+    put_number(&mut out, "latest", latest)?;
+    ended(out)
+}
+
+fn unreadable_text(alloc: Global, app: &Text, id: u64) -> Result<Bytes, NoMemory>
+    ensures { IfOk result (λ text. text ≡ spec.reply_text (Reply.Unreadable app.now id)) }
+{
+    let mut out = begun(alloc)?;
+    put_text(&mut out, "app", app.as_str())?;
+    put_text(&mut out, "error", "unreadable")?;
+    put_number(&mut out, "id", id)?;
+    ended(out)
 }

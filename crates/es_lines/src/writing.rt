@@ -9,6 +9,7 @@ ghost use Rattle.es_lines.specs.CommandText.{command_tree, CanBeAsked};
 ghost use Rattle.es_lines.specs.CommandText as spec;
 ghost use Rattle.es_lines.specs.inner.Parts as parts;
 ghost use Rattle.es_lines.specs.Requests.{request_in, asks};
+ghost use Rattle.es_lines.specs.declared.request.Request.TheVariants as requests;
 
 use es_domain::Command;
 use es_model::names::topic_of;
@@ -17,7 +18,7 @@ use es_transcode::{encode_tree, id_text};
 use serde_json::{Map, Value, put};
 use std::alloc::Global;
 
-fn text_value(alloc: Global, text: &str) -> Result<Value, NoMemory>
+pub(crate) fn text_value(alloc: Global, text: &str) -> Result<Value, NoMemory>
     ensures { IfOk result (λ v. view v ≡ string text.now) }
 {
     Ok(Value::String(String::from_str(alloc, text)?))
@@ -57,7 +58,7 @@ fn command_tree(alloc: Global, app: &Text, command: &Command) -> Result<Value, N
 /// The canonical text of a command of an application, which a recording keeps as its cause.
 pub fn command_text(alloc: Global, app: &Text, command: &Command) -> Result<Bytes, NoMemory>
     ensures text { IfOk result (λ t. t ≡ spec.command_text app.now command.now) }
-    ensures reads_back { IfOk result (λ t. (sys : System) → CanBeAsked sys app.now command.now → request_in sys t ≡ asks app.now command.now) }
+    ensures reads_back { IfOk result (λ t. (sys : System) → CanBeAsked sys app.now command.now → request_in sys t ≡ asks (requests.Do app.now command.now)) }
 {
     let text = command_tree(alloc, app, command)?.to_string(alloc)?;
     Ok(Bytes::from_vec(text.into_bytes()))

@@ -1,5 +1,5 @@
 -- What an application adds, by the definitions of its answer and of what it follows with.
-use Rattle.std.proofs.Common.{◌≡◌, inl, inr, ◌+◌, ◌-◌, ℕ, ℤ, true, false, nat_le, List, ◌++◌, length, slice_get, if◌then◌else◌, Option, Some, None, is_some, OnOk, Result, Ok, Err, refl, sym, ap, ◌∙◌, subst}
+use Rattle.std.proofs.Common.{◌≡◌, inl, inr, ◌+◌, ◌-◌, ℕ, ℤ, true, false, nat_le, List, ◌++◌, length, slice_get, if◌then◌else◌, Option, Some, None, is_some, OnOk, IfOk, IfErr, Result, Ok, Err, refl, sym, ap, ◌∙◌, subst}
 use Rattle.es_model.specs.declared.declaration.System.{System}
 use Rattle.es_model.specs.declared.domain_event.DomainEvent.{DomainEvent}
 use Rattle.es_model.specs.declared.event.Recording.{Recording}
@@ -20,7 +20,9 @@ use Rattle.es_lines.specs.declared.replies.Reply.TheVariants.{Accepted}
 use Rattle.es_process.specs.Answer.{Answer, says, accepts, ends, accept_unless, recording_of, Followed, adds, stops, add_unless, followed_of, followed, options}
 use Rattle.es_process.specs.Decision.{Decision, Logs, events}
 use Rattle.es_process.specs.inner.Adding.{Adds, Records, Takes}
-use Rattle.es_process.specs.Leaves.{Gives, MayAdd, Leaves, MayTake}
+use Rattle.es_process.specs.Leaves.{Gives, MayAdd, MayFailToAdd, Leaves, MayTake}
+use Rattle.es_process.specs.Standing.{MayFailToRead}
+use Rattle.es_lines.specs.declared.replies.Reply.{Reply}
 use Rattle.es_process.specs.SystemRules.{rules_of, decide_entry, decide_event}
 
 may_take : (f : Followed) (h : List Recording) → MayTake f h (Some h)
@@ -111,3 +113,18 @@ not_answered capacity app h r id fault.NoMemory new so = so
 not_answered capacity app h r id (fault.Refused name leader n recordings code rule) new so = absurd so
 not_answered capacity app h r id (fault.Turns name turns) new so = absurd so
 not_answered capacity app h r id (fault.Unreadable name n) new so = absurd so
+
+-- a question was answered, or its answer couldn't be read
+pub told_leaves : (told : Reply) (h : List Recording) (result : Result Reply RunFault) (new : Option (List Recording)) → IfOk result (λ reply. reply ≡ told) → IfErr result MayFailToRead → new ≡ Some h → Leaves (says told) h result new
+told_leaves told h (Ok reply) new is may same = (is, same)
+told_leaves told h (Err f) new is (inl failed) same = subst (λ g. Leaves (says told) h (Err g) new) (sym failed) same
+told_leaves told h (Err f) new is (inr starved) same = subst (λ g. Leaves (says told) h (Err g) new) (sym starved) same
+
+pub reads_adds : (result : Result Reply RunFault) → IfErr result MayFailToRead → IfErr result MayFailToAdd
+reads_adds (Ok reply) may = tt
+reads_adds (Err f) (inl failed) = subst MayFailToAdd (sym failed) tt
+reads_adds (Err f) (inr starved) = subst MayFailToAdd (sym starved) tt
+
+pub ok_always : {A : Type 0} {E : Type 0} {P : Type 0} (result : Result A E) → P → OnOk result P
+ok_always (Ok x) so = so
+ok_always (Err e) so = tt

@@ -15,7 +15,7 @@ use Rattle.es_lines.specs.declared.ends.End.TheVariants.{Turns}
 use Rattle.es_lines.specs.declared.replies.Reply.TheVariants.{Conflict}
 use Rattle.es_process.specs.Answer.{Options, Answer, says, accepts, ends, answer, differs, Followed, adds, stops, followed_of}
 use Rattle.es_process.specs.Decision.{Rules, logs_of}
-use Rattle.es_process.specs.Requests.{Request, command, no_request}
+use Rattle.es_process.specs.Requests.{Request, command, question, sync, stop, no_request}
 use Rattle.es_process.specs.SingleThread.{Place, Turn, finished, goes_on, turn_at, line_turn, request_turn, command_turn, next_turn, followed_turn, past_line, only_says, led_by, leaders_of, prompt, Run, after, steps_of, IsRun, HasOneRun, start}
 use Rattle.es_process.proofs.AmongLemmas.{contains-cases, contains-filter, contains-here, contains-later, contains-none, put-here, same-name}
 use Rattle.es_process.proofs.SingleThreadLemmas.{run-finished, run-unique, Goes-none, Goes-turn, Goes-run}
@@ -145,6 +145,9 @@ module _ (rules : Rules) (options : Options) (openings : Histories) where
 
     request_runs : (line : Line) (r : Request) → RunsAfter (request_turn rules options (at_place h rs used [] [] (line ∷ lines) k) lines r)
     request_runs line (no_request told) = so h rs used [] (k + 1)
+    request_runs line sync = so h rs used [] (k + 1)
+    request_runs line stop = so h rs used [] (k + 1)
+    request_runs line (question app reply) = so h rs used [] (k + 1)
     request_runs line (command app asked id expect) =
         let at : Place = at_place h rs used [] [] (line ∷ lines) k in
         elim (differs (h app) id expect) as (λ b. RunsAfter (if b then goes_on (only_says (Conflict (latest (log (h app)) id))) (past_line at lines) else command_turn at lines app (answer rules options.capacity app (h app) (logs_of h) asked id expect (first_reading rs)))) [

@@ -16,11 +16,11 @@ use Rattle.es_recorder.specs.Held.{put}
 use Rattle.es_lines.specs.declared.ends.End.{End}
 use Rattle.es_lines.specs.declared.ends.End.TheVariants.{Ok}
 use Rattle.es_lines.specs.declared.replies.Reply.{Reply}
-use Rattle.es_lines.specs.declared.replies.Reply.TheVariants.{Long, Conflict}
+use Rattle.es_lines.specs.declared.replies.Reply.TheVariants.{Long, Conflict, Sync, Stop}
 use Rattle.es_process.specs.Answer.{Options, Answer, says, accepts, ends, answer, differs, Followed, adds, stops, followed}
 use Rattle.es_process.specs.Decision.{Rules, logs_of}
 use Rattle.es_process.specs.Reached.{tracked_of, last_of, IsReached, ahead}
-use Rattle.es_process.specs.Requests.{Request, command, no_request}
+use Rattle.es_process.specs.Requests.{Request, command, question, sync, stop, no_request}
 use Rattle.es_process.specs.SingleThread.{Place, Turn, goes_on, turn_of, line_turn, request_turn, command_turn, next_turn, followed_turn, past_line, only_says, does_nothing, prompt, is_among, led_by, leaders_of, Step, records, writes, Run, IsRun, start, left_by}
 use Rattle.es_lines.specs.Texts.{reply_text}
 use Rattle.es_process.proofs.AmongLemmas.{contains-here, contains-none, contains-cases, contains-left, contains-last, led-contains, leaders-contains, among-contains, contains-among, put-here, put-other, put-cases, same-or-not, same-name}
@@ -94,19 +94,19 @@ module _ (h : Histories) (app : Name) (r : Recording) where
   last_same q differ = ap (λ x. length (log x)) (put-other h app (h app ++ r ∷ []) q.0 differ)
 
 module _ (rules : Rules) (options : Options) (openings : Histories) where
-  -- each follower tracks no more than there is, and has reached its leader's last notification, or is still to be tried
-  record Chases (done : List Step) (at : Place) : Type 0 where
-    left : left_by done openings ≡ at.histories
-    behind : (p : Name × Name) → Contains rules.pairs p → tracked_of at.histories p ≤ last_of at.histories p
-    caught : (p : Name × Name) → Contains rules.pairs p → (tracked_of at.histories p ≡ last_of at.histories p) ⊎ (Contains at.pending p ⊎ Contains at.prompted p.0)
+  -- each follower tracks its leader's last notification, or is still to be tried; and none tracks more than there is, where none did at the opening
+  pub record Chases (done : List Step) (at : Place) : Type 0 where
+    pub left : left_by done openings ≡ at.histories
+    pub behind : ahead rules.pairs openings ≡ None → (p : Name × Name) → Contains rules.pairs p → tracked_of at.histories p ≤ last_of at.histories p
+    pub caught : (p : Name × Name) → Contains rules.pairs p → (last_of at.histories p ≤ tracked_of at.histories p) ⊎ (Contains at.pending p ⊎ Contains at.prompted p.0)
 
-  abbrev Nothing : List Step → Type 0
+  abbrev pub Nothing : List Step → Type 0
   Nothing done = Unit {0}
 
-  abbrev EndsReached : List Step → End → Type 0
-  EndsReached done end = (added : List (Name × ℕ)) (count : ℕ) → end ≡ Ok added count → IsReached rules.pairs (left_by done openings)
+  abbrev pub EndsReached : List Step → End → Type 0
+  EndsReached done end = (added : List (Name × ℕ)) (count : ℕ) → end ≡ Ok added count → ahead rules.pairs openings ≡ None → IsReached rules.pairs (left_by done openings)
 
-  abbrev KeepsChase : List Step → Turn → Type 0
+  abbrev pub KeepsChase : List Step → Turn → Type 0
   KeepsChase = Keeps rules options openings Chases Nothing EndsReached
 
   -- a turn that adds nothing
@@ -121,7 +121,7 @@ module _ (rules : Rules) (options : Options) (openings : Histories) where
   )
 
   idles_chases : (done : List Step) (at : Place) (so : Chases done at) (prompted : List Name) (pending : List (Name × Name))
-      → ((p : Name × Name) → Contains rules.pairs p → (tracked_of at.histories p ≡ last_of at.histories p) ⊎ (Contains pending p ⊎ Contains prompted p.0)) → KeepsChase done (goes_on does_nothing (record at { prompted = prompted; pending = pending }))
+      → ((p : Name × Name) → Contains rules.pairs p → (last_of at.histories p ≤ tracked_of at.histories p) ⊎ (Contains pending p ⊎ Contains prompted p.0)) → KeepsChase done (goes_on does_nothing (record at { prompted = prompted; pending = pending }))
   idles_chases done at so prompted pending caught = (
     λ front rest is. tt,
     record {
@@ -133,9 +133,9 @@ module _ (rules : Rules) (options : Options) (openings : Histories) where
 
   -- an accepted command, in a place where nothing is still to be tried
   module _ (done : List Step) (at : Place) (so : Chases done at) (pending_none : at.pending ≡ []) (prompted_none : at.prompted ≡ []) where
-    all_caught : (p : Name × Name) → Contains rules.pairs p → tracked_of at.histories p ≡ last_of at.histories p
-    all_caught p declared = elim (so.caught p declared) [
-      | inl same ↦ same
+    pub all-caught : (p : Name × Name) → Contains rules.pairs p → last_of at.histories p ≤ tracked_of at.histories p
+    all-caught p declared = elim (so.caught p declared) [
+      | inl reached ↦ reached
       | inr (inl here) ↦ contains-none p (subst (λ ps. Contains ps p) pending_none here)
       | inr (inr here) ↦ contains-none p.0 (subst (λ ns. Contains ns p.0) prompted_none here)
     ]
@@ -146,10 +146,10 @@ module _ (rules : Rules) (options : Options) (openings : Histories) where
       λ front rest is. tt,
       record {
         left = left_by-append done (records app r ∷ writes (reply_text reply) ∷ []) openings ∙ ap (left_by (records app r ∷ writes (reply_text reply) ∷ [])) so.left;
-        behind = λ p declared. omega (arith, same p, so.behind p declared, last_more at.histories app r p);
+        behind = λ fair p declared. omega (arith, same p, so.behind fair p declared, last_more at.histories app r p);
         caught = λ p declared. elim (same-or-not p.0 app) [
           | inl leads ↦ inr (inr (subst (Contains (app ∷ [])) (sym leads) (contains-here app [])))
-          | inr differ ↦ inl (same p ∙ all_caught p declared ∙ sym (last_same at.histories app r p differ))
+          | inr differ ↦ inl (omega (arith, same p, all-caught p declared, last_same at.histories app r p differ))
         ];
       },
     )
@@ -168,6 +168,9 @@ module _ (rules : Rules) (options : Options) (openings : Histories) where
 
     request_chases : (rest : List Line) (q : Request) → KeepsChase done (request_turn rules options at rest q)
     request_chases rest (no_request told) = said_chases done at so told rest at.readings
+    request_chases rest sync = said_chases done at so Sync rest at.readings
+    request_chases rest stop = said_chases done at so Stop rest at.readings
+    request_chases rest (question app reply) = said_chases done at so (reply (at.histories app)) rest at.readings
     request_chases rest (command app asked id expect) =
         let a : Answer = answer rules options.capacity app (at.histories app) (logs_of at.histories) asked id expect (first_reading at.readings) in
         elim (differs (at.histories app) id expect) as (λ b. KeepsChase done (if b then goes_on (only_says (Conflict (latest (log (at.histories app)) id))) (past_line at rest) else command_turn at rest app a)) [
@@ -176,10 +179,10 @@ module _ (rules : Rules) (options : Options) (openings : Histories) where
         ]
 
     line_chases : (ls : List Line) → KeepsChase done (line_turn rules options openings at ls)
-    line_chases [] = λ added count ok p declared. subst (λ h. tracked_of h p ≡ last_of h p) (sym so.left) (all_caught p declared)
+    line_chases [] = λ added count ok fair p declared. subst (λ h. tracked_of h p ≡ last_of h p) (sym so.left) (le_antisymm (so.behind fair p declared) (all-caught p declared))
     line_chases (text t ∷ rest) = request_chases rest (rules.request t)
     line_chases (long ∷ rest) = said_chases done at so Long rest at.readings
-    line_chases (over ∷ rest) = λ added count ok. absurd (cc ok)
+    line_chases (over ∷ rest) = λ added count ok fair. absurd (cc ok)
 
   -- a follower records the next notification of its leader
   module _ (done : List Step) (at : Place) (so : Chases done at) (leader app : Name) (pending : Contains at.pending (leader, app)) (there : tracked_in (at.histories app) leader < length (log (at.histories leader))) where
@@ -195,10 +198,10 @@ module _ (rules : Rules) (options : Options) (openings : Histories) where
           not_from true differ = absurd (differ refl)
           not_from false differ = refl
 
-      still_behind : (p : Name × Name) → Contains rules.pairs p → tracked_of (put at.histories app (at.histories app ++ r ∷ [])) p ≤ last_of (put at.histories app (at.histories app ++ r ∷ [])) p
-      still_behind p declared =
+      still_behind : ahead rules.pairs openings ≡ None → (p : Name × Name) → Contains rules.pairs p → tracked_of (put at.histories app (at.histories app ++ r ∷ [])) p ≤ last_of (put at.histories app (at.histories app ++ r ∷ [])) p
+      still_behind fair p declared =
           let less : tracked_of (put at.histories app (at.histories app ++ r ∷ [])) p ≤ last_of at.histories p =
-          tracked_more at.histories app r p (last_of at.histories p) (so.behind p declared) (λ same. within (same-or-not p.0 leader)) in
+          tracked_more at.histories app r p (last_of at.histories p) (so.behind fair p declared) (λ same. within (same-or-not p.0 leader)) in
           omega (arith, less, last_more at.histories app r p)
         where
           within : (p.0 ≡ leader) ⊎ (p.0 ≡ leader → ⊥) → id_from r.cause p.0 ≤ last_of at.histories p
@@ -213,23 +216,24 @@ module _ (rules : Rules) (options : Options) (openings : Histories) where
       grown = put at.histories app (at.histories app ++ r ∷ [])
 
       abbrev IsCaught : Name × Name → Type 0
-      IsCaught p = (tracked_of grown p ≡ last_of grown p) ⊎ (Contains at.pending p ⊎ Contains (prompt rules.pairs at.prompted app r.events) p.0)
+      IsCaught p = (last_of grown p ≤ tracked_of grown p) ⊎ (Contains at.pending p ⊎ Contains (prompt rules.pairs at.prompted app r.events) p.0)
 
       -- a pair that had reached its leader, which may be this follower
-      reached_caught : (p : Name × Name) → Contains rules.pairs p → tracked_of grown p ≡ last_of at.histories p → IsCaught p
+      reached_caught : (p : Name × Name) → Contains rules.pairs p → last_of at.histories p ≤ tracked_of grown p → IsCaught p
       reached_caught p declared same = elim (same-or-not p.0 app) [
         | inl leads ↦ elim (grown_or_not rules.pairs at.prompted app (at.histories app) r (subst (Contains (leaders_of rules.pairs)) leads (leaders-contains rules.pairs p declared))) [
-          | inl alike ↦ inl (same ∙ sym (ap (λ n. length (log (grown n))) leads ∙ ap (λ x. length (log x)) (put-here at.histories app (at.histories app ++ r ∷ [])) ∙ alike ∙ ap (λ n. length (log (at.histories n))) (sym leads)))
+          | inl alike ↦ let still : last_of grown p ≡ last_of at.histories p = ap (λ n. length (log (grown n))) leads ∙ ap (λ x. length (log x)) (put-here at.histories app (at.histories app ++ r ∷ [])) ∙ alike ∙ ap (λ n. length (log (at.histories n))) (sym leads) in
+              inl (omega (arith, still, same))
           | inr prompted ↦ inr (inr (subst (Contains (prompt rules.pairs at.prompted app r.events)) (sym leads) prompted))
         ]
-        | inr differ ↦ inl (same ∙ sym (last_same at.histories app r p differ))
+        | inr differ ↦ inl (omega (arith, same, last_same at.histories app r p differ))
       ]
 
       other_caught : (p : Name × Name) → Contains rules.pairs p → (p.1 ≡ app → p.0 ≡ leader → ⊥) → IsCaught p
       other_caught p declared differ =
           let same : tracked_of grown p ≡ tracked_of at.histories p = tracked_same at.histories app r p (λ is. omega (arith, other_leader p.0 (differ is))) in
           elim (so.caught p declared) [
-            | inl reached ↦ reached_caught p declared (same ∙ reached)
+            | inl reached ↦ reached_caught p declared (omega (arith, same, reached))
             | inr (inl here) ↦ inr (inl here)
             | inr (inr here) ↦ inr (inr (prompt_keeps rules.pairs at.prompted app r.events p.0 here))
           ]
@@ -260,12 +264,12 @@ module _ (rules : Rules) (options : Options) (openings : Histories) where
 
   -- a pair whose follower has no notification to come
   dropped_caught : (done : List Step) (at : Place) (so : Chases done at) (leader app : Name) (rest : List (Name × Name)) → at.pending ≡ (leader, app) ∷ rest → length (log (at.histories leader)) ≤ tracked_in (at.histories app) leader
-      → (p : Name × Name) → Contains rules.pairs p → (tracked_of at.histories p ≡ last_of at.histories p) ⊎ (Contains rest p ⊎ Contains at.prompted p.0)
+      → (p : Name × Name) → Contains rules.pairs p → (last_of at.histories p ≤ tracked_of at.histories p) ⊎ (Contains rest p ⊎ Contains at.prompted p.0)
   dropped_caught done at so leader app rest is past p declared = elim (so.caught p declared) [
     | inl reached ↦ inl reached
     | inr (inr here) ↦ inr (inr here)
     | inr (inl here) ↦ elim (contains-cases (leader, app) rest p (subst (λ ps. Contains ps p) is here)) [
-      | inl same ↦ inl (le_antisymm (so.behind p declared) (subst (λ q. last_of at.histories q ≤ tracked_of at.histories q) same past))
+      | inl same ↦ inl (subst (λ q. last_of at.histories q ≤ tracked_of at.histories q) same past)
       | inr behind ↦ inr (inl behind)
     ]
   ]
@@ -284,7 +288,7 @@ module _ (rules : Rules) (options : Options) (openings : Histories) where
 
   -- the pairs of a leader that is taken are still to be tried
   taken_caught : (done : List Step) (at : Place) (so : Chases done at) (leader : Name) (prompted : List Name) → at.pending ≡ [] → at.prompted ≡ leader ∷ prompted
-      → (p : Name × Name) → Contains rules.pairs p → (tracked_of at.histories p ≡ last_of at.histories p) ⊎ (Contains (led_by rules.pairs leader) p ⊎ Contains prompted p.0)
+      → (p : Name × Name) → Contains rules.pairs p → (last_of at.histories p ≤ tracked_of at.histories p) ⊎ (Contains (led_by rules.pairs leader) p ⊎ Contains prompted p.0)
   taken_caught done at so leader prompted none is p declared = elim (so.caught p declared) [
     | inl reached ↦ inl reached
     | inr (inl here) ↦ contains-none p (subst (λ ps. Contains ps p) none here)
@@ -294,20 +298,21 @@ module _ (rules : Rules) (options : Options) (openings : Histories) where
     ]
   ]
 
-  turn_chases : (done : List Step) (at : Place) (so : Chases done at) (pending : List (Name × Name)) (prompted : List Name) → at.pending ≡ pending → at.prompted ≡ prompted → KeepsChase done (turn_of rules options openings at pending prompted)
-  turn_chases done at so (p ∷ rest) prompted is prompts = next_chases done at so p.0 p.1 rest is (slice_get (log (at.histories p.0)) (tracked_in (at.histories p.1) p.0)) refl
-  turn_chases done at so [] (leader ∷ prompted) is prompts = idles_chases done at so prompted (led_by rules.pairs leader) (taken_caught done at so leader prompted is prompts)
-  turn_chases done at so [] [] is prompts = line_chases done at so is prompts at.lines
+  pub turn-chases : (done : List Step) (at : Place) (so : Chases done at) (pending : List (Name × Name)) (prompted : List Name) → at.pending ≡ pending → at.prompted ≡ prompted → KeepsChase done (turn_of rules options openings at pending prompted)
+  turn-chases done at so (p ∷ rest) prompted is prompts = next_chases done at so p.0 p.1 rest is (slice_get (log (at.histories p.0)) (tracked_in (at.histories p.1) p.0)) refl
+  turn-chases done at so [] (leader ∷ prompted) is prompts = idles_chases done at so prompted (led_by rules.pairs leader) (taken_caught done at so leader prompted is prompts)
+  turn-chases done at so [] [] is prompts = line_chases done at so is prompts at.lines
 
-  whole_reached : (readings : Readings) (lines : List Line) (d : Run) → IsRun rules options openings (start rules openings readings lines) d → ahead rules.pairs openings ≡ None → EndsReached d.steps d.end
-  whole_reached readings lines d run none =
-      run-ends rules options openings Chases Nothing EndsReached (λ done at so. tt) (λ done at so. turn_chases done at so at.pending at.prompted refl refl) (start rules openings readings lines) d
-      (record { left = refl; behind = none_ahead rules.pairs openings none; caught = λ p declared. inr (inr (leaders-contains rules.pairs p declared)) })
-      run
+  pub start-chases : (readings : Readings) (lines : List Line) → Chases [] (start rules openings readings lines)
+  start-chases readings lines = record { left = refl; behind = λ fair. none_ahead rules.pairs openings fair; caught = λ p declared. inr (inr (leaders-contains rules.pairs p declared)) }
+
+  whole_reached : (readings : Readings) (lines : List Line) (d : Run) → IsRun rules options openings (start rules openings readings lines) d → EndsReached d.steps d.end
+  whole_reached readings lines d run =
+      run-ends rules options openings Chases Nothing EndsReached (λ done at so. tt) (λ done at so. turn-chases done at so at.pending at.prompted refl refl) (start rules openings readings lines) d (start-chases readings lines) run
 
   -- all steps of a run that ends well, from openings of which none is ahead, leave each follower at its leaders' last notifications
   pub run-reached : (readings : Readings) (lines : List Line) (d : Run) → IsRun rules options openings (start rules openings readings lines) d → ahead rules.pairs openings ≡ None
       → (done rest : List Step) → d.steps ≡ done ++ rest → rest ≡ [] → (added : List (Name × ℕ)) (count : ℕ) → d.end ≡ Ok added count → IsReached rules.pairs (left_by done openings)
   run-reached readings lines d run none done rest parts whole added count ok =
       let same : d.steps ≡ done = parts ∙ ap (λ (t : List Step). done ++ t) whole ∙ append-nil done in
-      subst (λ t. IsReached rules.pairs (left_by t openings)) same (whole_reached readings lines d run none added count ok)
+      subst (λ t. IsReached rules.pairs (left_by t openings)) same (whole_reached readings lines d run added count ok none)

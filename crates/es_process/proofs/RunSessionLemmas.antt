@@ -1,5 +1,5 @@
 -- The histories that any first steps of a run leave are consistent, and what these steps write is a session over them.
-use Rattle.std.proofs.Common.{◌≡◌, ◌≤◌, ◌<◌, inl, inr, ℕ, ℤ, ◌+◌, Bool, true, false, List, [], ◌∷◌, ◌++◌, length, take, drop, slice_get, Contains, if◌then◌else◌, Option, Some, None, refl, sym, ap, ◌∙◌, subst, append-nil, append_assoc, take_all, take_at, le_refl, arith}
+use Rattle.std.proofs.Common.{◌≡◌, ◌≤◌, ◌<◌, inl, inr, ℕ, ℤ, ◌+◌, Bool, true, false, List, [], ◌∷◌, ◌++◌, length, take, drop, slice_get, Contains, if◌then◌else◌, Option, Some, None, refl, sym, ap, ◌∙◌, subst, append-nil, append_assoc, length-append, take_all, take_at, le_refl, arith}
 use Rattle.std.specs.Str.{bytes_eq}
 use Rattle.std.proofs.lemmas.Bool.{cases_eq}
 use Rattle.std.proofs.lemmas.List.{map_push, flat_map_more, length_push, length-map, drop_all}
@@ -11,26 +11,28 @@ use Rattle.es_model.specs.History.{Histories, log, latest}
 use Rattle.es_model.specs.Lines.{Line, text, long, over}
 use Rattle.es_model.specs.Tracking.{tracked_in}
 use Rattle.es_model.specs.Values.{Name, Id}
+use Rattle.es_model.proofs.HistoryLemmas.{log-append}
 use Rattle.es_io.specs.Readings.{Readings, first_reading, later_readings}
 use Rattle.es_recorder.specs.Held.{put}
 use Rattle.es_lines.specs.declared.ends.End.{End}
 use Rattle.es_lines.specs.declared.ends.End.TheVariants.{Ok, Over}
 use Rattle.es_lines.specs.declared.replies.Reply.{Reply}
-use Rattle.es_lines.specs.declared.replies.Reply.TheVariants.{Long, Conflict}
+use Rattle.es_lines.specs.declared.replies.Reply.TheVariants.{Long, Conflict, Sync, Stop}
 use Rattle.es_process.specs.Answer.{Options, Answer, says, accepts, ends, answer, answer_of, differs, Followed, adds, stops, followed}
 use Rattle.es_process.specs.Consistent.{IsConsistent}
 use Rattle.es_process.specs.Decision.{Rules, logs_of}
 use Rattle.es_process.specs.Follows.{ComesNext}
 use Rattle.es_process.specs.inner.Lawful.{IsLawful}
-use Rattle.es_process.specs.Requests.{Request, command, no_request}
+use Rattle.es_process.specs.Requests.{Request, command, question, sync, stop, no_request}
 use Rattle.es_process.specs.Session.{Answered, IsReading, AnswersLine, AnswersRequest, AreAnswered, lines_in, replies_in, writes_in, accepted_in, if_of, commands_in, is_command, IsOfFirst, IsSession}
-use Rattle.es_process.specs.SingleThread.{Place, Turn, goes_on, turn_of, line_turn, request_turn, command_turn, next_turn, followed_turn, past_line, only_says, does_nothing, prompt, led_by, added_counts, Step, records, writes, Run, IsRun, start, left_by, written_by, as_line}
+use Rattle.es_process.specs.SingleThread.{Place, Turn, finished, goes_on, turn_at, turn_of, line_turn, request_turn, command_turn, next_turn, followed_turn, past_line, only_says, does_nothing, prompt, led_by, added_counts, Step, records, writes, Run, IsRun, start, left_by, written_by, as_line}
 use Rattle.es_lines.specs.Texts.{reply_text}
 use Rattle.es_process.proofs.AmongLemmas.{contains-here, contains-later, contains-none, contains-filter, put-here}
 use Rattle.es_process.proofs.ConsistentLemmas.{IsConsistent-opening, IsConsistent-push}
 use Rattle.es_process.proofs.DecidedLemmas.{IsDecided, answer-accepts, answer-ends, followed-adds, followed-stops, same_version}
 use Rattle.es_process.proofs.FollowsLemmas.{Grows-same, Grows-put, Follows-longer}
-use Rattle.es_process.proofs.SessionLemmas.{answer-local, first-reading, later-reading, AreAnswered-grows, AreAnswered-push, accepted_in-push, granted-command, granted-notified}
+use Rattle.es_process.proofs.RunReachedLemmas.{Chases, KeepsChase, all-caught, turn-chases, start-chases}
+use Rattle.es_process.proofs.SessionLemmas.{AllSee, all-synced, AllSee-grows, AllSee-push, answer-local, first-reading, later-reading, AreAnswered-grows, AreAnswered-push, accepted_in-push, granted-command, granted-notified}
 use Rattle.es_process.proofs.SingleThreadLemmas.{left_by-append, written_by-append}
 use Rattle.es_process.proofs.TurnsLemmas.{Keeps, run-holds, run-ends}
 
@@ -71,6 +73,7 @@ module _ (rules : Rules) (lawful : IsLawful rules) (options : Options) (openings
     numbered : at.answered ≡ writes_in done
     written : written_by done ≡ replies_in answered
     granted : (b : Name) → Contains rules.names b → commands_in (drop (length (openings b)) (at.histories b)) ≡ accepted_in b answered
+    seen : AllSee rules openings at.histories answered
     later : (m : ℤ) → IsReading at.readings m → IsReading readings m
     pending : (p : Name × Name) → Contains at.pending p → Contains rules.pairs p
 
@@ -101,6 +104,7 @@ module _ (rules : Rules) (lawful : IsLawful rules) (options : Options) (openings
         parts = so.parts;
         counted = so.counted;
         each = so.each;
+        synced = all-synced rules openings at.histories so.answered so.seen;
         written = so.written;
         more = None;
         granted = λ b declared. so.granted b declared ∙ sym (append-nil (accepted_in b so.answered));
@@ -127,6 +131,7 @@ module _ (rules : Rules) (lawful : IsLawful rules) (options : Options) (openings
     numbered = so.numbered;
     written = so.written;
     granted = so.granted;
+    seen = so.seen;
     later = so.later;
     pending = among;
   }
@@ -145,8 +150,17 @@ module _ (rules : Rules) (lawful : IsLawful rules) (options : Options) (openings
   none_yet : (done : List Step) (at : Place) → Stands done at → Holds (done ++ [])
   none_yet done at so = subst Holds (sym (append-nil done)) (stands_holds done at so)
 
+  -- each follower tracks its leaders' last notifications
+  abbrev Caught : Place → Type 0
+  Caught at = (p : Name × Name) → Contains rules.pairs p → length (log (at.histories p.0)) ≤ tracked_in (at.histories p.1) p.0
+
+  longer_logs : (done : List Step) (at : Place) → Stands done at → (leader : Name) → Contains rules.names leader → length (log (openings leader)) ≤ length (log (at.histories leader))
+  longer_logs done at so leader declared =
+      let f = so.consistent.follow leader declared in
+      omega (arith, ap (λ h. length (log h)) f.parts, ap length (log-append (openings leader) f.added), length-append (log (openings leader)) (log f.added))
+
   -- the next line is answered
-  module _ (done : List Step) (at : Place) (so : Stands done at) (line : Line) (rest : List Line) (is : at.lines ≡ line ∷ rest) where
+  module _ (done : List Step) (at : Place) (so : Stands done at) (caught : Caught at) (line : Line) (rest : List Line) (is : at.lines ≡ line ∷ rest) where
     parts_push : (x : Answered) → x.line ≡ line → lines ≡ lines_in (so.answered ++ x ∷ []) ++ rest
     parts_push x same =
         so.parts
@@ -178,6 +192,7 @@ module _ (rules : Rules) (lawful : IsLawful rules) (options : Options) (openings
       counted = counted_push x (writes (reply_text x.reply) ∷ []) (omega arith);
       numbered = numbered_push (writes (reply_text x.reply) ∷ []) (omega arith);
       written = written_push x (writes (reply_text x.reply) ∷ []) refl;
+      seen = AllSee-push rules options openings at.histories at.histories readings lawful.local (Grows-same at.histories) x (longer_logs done at so) (λ p there. (lawful.paired p there).0) caught (λ b named. take_all x.mark (at.histories b) (late b named)) so.answered so.each so.seen;
       granted = λ b declared. so.granted b declared ∙ sym (accepted_in-push b so.answered x ∙ (λ i. accepted_in b so.answered ++ if_of b (none i)) ∙ append-nil (accepted_in b so.answered));
       later = λ m reading. so.later m (fewer m reading);
       pending = so.pending;
@@ -191,7 +206,7 @@ module _ (rules : Rules) (lawful : IsLawful rules) (options : Options) (openings
         (front_of_one (λ t. Holds (done ++ t)) (writes (reply_text x.reply)) (none_yet done at so) (stands_holds (done ++ writes (reply_text x.reply) ∷ []) next stands), stands)
 
   -- the next line asks something of an application
-  module _ (done : List Step) (at : Place) (so : Stands done at) (t : List ℕ) (rest : List Line) (is : at.lines ≡ text t ∷ rest) (app : Name) (asked : List ℕ) (id : Id) (expect : Option ℕ) (request : rules.request t ≡ command app asked id expect) where
+  module _ (done : List Step) (at : Place) (so : Stands done at) (caught : Caught at) (t : List ℕ) (rest : List Line) (is : at.lines ≡ text t ∷ rest) (app : Name) (asked : List ℕ) (id : Id) (expect : Option ℕ) (request : rules.request t ≡ command app asked id expect) where
     declared_app : Contains rules.names app
     declared_app = lawful.named t asked app id expect request
 
@@ -209,7 +224,7 @@ module _ (rules : Rules) (lawful : IsLawful rules) (options : Options) (openings
         → ((m : ℤ) → IsReading rs m → IsReading at.readings m) → KeepsHere done (goes_on (only_says reply) (record (past_line at rest) { readings = rs }))
     asked_says reply rs says_so fewer =
         let x : Answered = answered_over None reply in
-        said_keeps done at so (text t) rest is x rs refl refl
+        said_keeps done at so caught (text t) rest is x rs refl refl
         (subst (λ q. AnswersRequest rules options openings at.histories readings q x) (sym request) (record {
           named = refl;
           from = past_opening;
@@ -258,6 +273,7 @@ module _ (rules : Rules) (lawful : IsLawful rules) (options : Options) (openings
                   parts = so.parts;
                   counted = omega (arith, writes_in-append done (records app r ∷ []), so.counted);
                   each = AreAnswered-grows rules options openings at.histories after_it readings lawful.local (Grows-put at.histories app r) so.answered so.each;
+                  synced = all-synced rules openings after_it so.answered (AllSee-grows rules options openings at.histories after_it readings lawful.local (Grows-put at.histories app r) so.answered so.each so.seen);
                   written = written_by-append done (records app r ∷ []) ∙ append-nil (written_by done) ∙ so.written;
                   more = Some (app, r);
                   granted = granted_more;
@@ -290,12 +306,14 @@ module _ (rules : Rules) (lawful : IsLawful rules) (options : Options) (openings
         left = left_by-append done both_steps openings ∙ ap (left_by both_steps) so.left;
         consistent = IsConsistent-push rules lawful openings at.histories app r comes so.consistent;
         answered = so.answered ++ answered_over (Some (app, r)) reply ∷ [];
-        parts = parts_push done at so (text t) rest is (answered_over (Some (app, r)) reply) refl;
+        parts = parts_push done at so caught (text t) rest is (answered_over (Some (app, r)) reply) refl;
         each = AreAnswered-push rules options openings at.histories after_it readings lawful.local (Grows-put at.histories app r) so.answered (answered_over (Some (app, r)) reply) so.each accepted_answers
             (λ b named. let names : app ≡ b = cc named in subst (λ n. length (at.histories n) ≤ length (at.histories app)) names (le_refl (length (at.histories app))));
-        counted = counted_push done at so (text t) rest is (answered_over (Some (app, r)) reply) both_steps (omega arith);
-        numbered = numbered_push done at so (text t) rest is both_steps (omega arith);
-        written = written_push done at so (text t) rest is (answered_over (Some (app, r)) reply) both_steps refl;
+        counted = counted_push done at so caught (text t) rest is (answered_over (Some (app, r)) reply) both_steps (omega arith);
+        numbered = numbered_push done at so caught (text t) rest is both_steps (omega arith);
+        written = written_push done at so caught (text t) rest is (answered_over (Some (app, r)) reply) both_steps refl;
+        seen = AllSee-push rules options openings at.histories after_it readings lawful.local (Grows-put at.histories app r) (answered_over (Some (app, r)) reply) (longer_logs done at so) (λ p pair. (lawful.paired p pair).0) caught
+            (λ b named. let names : app ≡ b = cc named in subst (λ n. take (length (at.histories app)) (after_it n) ≡ at.histories n) names (ap (λ (h : List Recording). take (length (at.histories app)) h) there ∙ take_at (at.histories app) (r ∷ []) (length (at.histories app)) refl)) so.answered so.each so.seen;
         granted = λ b declared. granted_more b declared ∙ sym (accepted_in-push b so.answered (answered_over (Some (app, r)) reply));
         later = λ m reading. so.later m (later-reading at.readings m reading);
         pending = so.pending;
@@ -325,25 +343,49 @@ module _ (rules : Rules) (lawful : IsLawful rules) (options : Options) (openings
   nothing_named : (at : Place) (b : Name) → None ≡ Some b → length (at.histories b) ≤ 0
   nothing_named at b is = absurd (cc is)
 
-  request_keeps : (done : List Step) (at : Place) (so : Stands done at) (t : List ℕ) (rest : List Line) → at.lines ≡ text t ∷ rest → (q : Request) → rules.request t ≡ q → KeepsHere done (request_turn rules options at rest q)
-  request_keeps done at so t rest is (no_request told) request =
-      said_keeps done at so (text t) rest is (unasked at (text t) told) at.readings refl refl
-      (subst (λ q. AnswersRequest rules options openings at.histories readings q (unasked at (text t) told)) (sym request) (record { unnamed = refl; nothing = refl; replied = refl }))
-      (nothing_named at) (λ m reading. reading)
-  request_keeps done at so t rest is (command app asked id expect) request = asked_keeps done at so t rest is app asked id expect request (differs (at.histories app) id expect) refl
+  -- it gets this reply
+  told_keeps : (done : List Step) (at : Place) (so : Stands done at) (caught : Caught at) (t : List ℕ) (rest : List Line) (is : at.lines ≡ text t ∷ rest) (told : Reply) → AnswersRequest rules options openings at.histories readings (rules.request t) (unasked at (text t) told)
+      → KeepsHere done (goes_on (only_says told) (past_line at rest))
+  told_keeps done at so caught t rest is told answers = said_keeps done at so caught (text t) rest is (unasked at (text t) told) at.readings refl refl answers (nothing_named at) (λ m reading. reading)
 
-  line_keeps : (done : List Step) (at : Place) (so : Stands done at) (ls : List Line) → at.lines ≡ ls → KeepsHere done (line_turn rules options openings at ls)
-  line_keeps done at so [] is = stands_ends done at (Ok (added_counts rules.names openings at.histories) at.answered) so (λ added count ok. record {
+  -- the next line asks a question of an application
+  questioned_keeps : (done : List Step) (at : Place) (so : Stands done at) (caught : Caught at) (t : List ℕ) (rest : List Line) (is : at.lines ≡ text t ∷ rest) (app : Name) (reply : List Recording → Reply) → rules.request t ≡ question app reply
+      → KeepsHere done (goes_on (only_says (reply (at.histories app))) (past_line at rest))
+  questioned_keeps done at so caught t rest is app reply request =
+      let x : Answered = record { line = text t; app = Some app; mark = length (at.histories app); at = first_reading at.readings; added = None; reply = reply (at.histories app) } in
+      said_keeps done at so caught (text t) rest is x at.readings refl refl
+      (subst (λ q. AnswersRequest rules options openings at.histories readings q x) (sym request) (record {
+        named = refl;
+        from = Follows-longer rules app (openings app) (at.histories app) (logs_of at.histories) (so.consistent.follow app (lawful.questioned t app reply request));
+        upto = le_refl (length (at.histories app));
+        replied = ap reply (sym (take_all (length (at.histories app)) (at.histories app) (le_refl (length (at.histories app)))));
+        nothing = refl;
+      }))
+      (λ b same. let names : app ≡ b = cc same in subst (λ n. length (at.histories n) ≤ length (at.histories app)) names (le_refl (length (at.histories app))))
+      (λ m reading. reading)
+
+  request_keeps : (done : List Step) (at : Place) (so : Stands done at) (caught : Caught at) (t : List ℕ) (rest : List Line) → at.lines ≡ text t ∷ rest → (q : Request) → rules.request t ≡ q → KeepsHere done (request_turn rules options at rest q)
+  request_keeps done at so caught t rest is (no_request told) request =
+      told_keeps done at so caught t rest is told (subst (λ q. AnswersRequest rules options openings at.histories readings q (unasked at (text t) told)) (sym request) (record { unnamed = refl; nothing = refl; replied = refl }))
+  request_keeps done at so caught t rest is sync request =
+      told_keeps done at so caught t rest is Sync (subst (λ q. AnswersRequest rules options openings at.histories readings q (unasked at (text t) Sync)) (sym request) (record { unnamed = refl; nothing = refl; replied = refl }))
+  request_keeps done at so caught t rest is stop request =
+      told_keeps done at so caught t rest is Stop (subst (λ q. AnswersRequest rules options openings at.histories readings q (unasked at (text t) Stop)) (sym request) (record { unnamed = refl; nothing = refl; replied = refl }))
+  request_keeps done at so caught t rest is (question app reply) request = questioned_keeps done at so caught t rest is app reply request
+  request_keeps done at so caught t rest is (command app asked id expect) request = asked_keeps done at so caught t rest is app asked id expect request (differs (at.histories app) id expect) refl
+
+  line_keeps : (done : List Step) (at : Place) (so : Stands done at) (caught : Caught at) (ls : List Line) → at.lines ≡ ls → KeepsHere done (line_turn rules options openings at ls)
+  line_keeps done at so caught [] is = stands_ends done at (Ok (added_counts rules.names openings at.histories) at.answered) so (λ added count ok. record {
     counts = let same : added_counts rules.names openings at.histories ≡ added = cc ok in sym same ∙ ap (added_counts rules.names openings) (sym so.left);
     number = let same : at.answered ≡ count = cc ok in sym same ∙ so.numbered;
     all =
         let same : at.answered ≡ count = cc ok in
         omega (arith, same, so.numbered, so.counted, ap length (so.parts ∙ ap (λ (t : List Line). lines_in so.answered ++ t) is ∙ append-nil (lines_in so.answered)), length-map so.answered (λ (y : Answered). y.line));
   })
-  line_keeps done at so (text t ∷ rest) is = request_keeps done at so t rest is (rules.request t) refl
-  line_keeps done at so (long ∷ rest) is =
-      said_keeps done at so long rest is (unasked at long Long) at.readings refl refl (record { unnamed = refl; nothing = refl; replied = refl }) (nothing_named at) (λ m reading. reading)
-  line_keeps done at so (over ∷ rest) is = stands_ends done at Over so (λ added count ok. absurd (cc ok))
+  line_keeps done at so caught (text t ∷ rest) is = request_keeps done at so caught t rest is (rules.request t) refl
+  line_keeps done at so caught (long ∷ rest) is =
+      said_keeps done at so caught long rest is (unasked at long Long) at.readings refl refl (record { unnamed = refl; nothing = refl; replied = refl }) (nothing_named at) (λ m reading. reading)
+  line_keeps done at so caught (over ∷ rest) is = stands_ends done at Over so (λ added count ok. absurd (cc ok))
 
   -- a follower records the next notification of its leader
   module _ (done : List Step) (at : Place) (so : Stands done at) (leader app : Name) (leads : Contains rules.pairs (leader, app)) (there : tracked_in (at.histories app) leader + 1 ≤ length (log (at.histories leader))) where
@@ -379,6 +421,7 @@ module _ (rules : Rules) (lawful : IsLawful rules) (options : Options) (openings
         counted = omega (arith, writes_in-append done (records app r ∷ []), so.counted);
         numbered = omega (arith, writes_in-append done (records app r ∷ []), so.numbered);
         written = written_by-append done (records app r ∷ []) ∙ append-nil (written_by done) ∙ so.written;
+        seen = AllSee-grows rules options openings at.histories past_it.histories readings lawful.local (Grows-put at.histories app r) so.answered so.each so.seen;
         granted = λ b declared. granted-notified openings at.histories app r follower_opening no_command b ∙ so.granted b declared;
         later = λ m reading. so.later m (later-reading at.readings m reading);
         pending = so.pending;
@@ -397,13 +440,26 @@ module _ (rules : Rules) (lawful : IsLawful rules) (options : Options) (openings
       let within : tracked_in (at.histories app) leader < length (log (at.histories leader)) = slice_get_within (log (at.histories leader)) (tracked_in (at.histories app) leader) e is in
       followed_keeps done at so leader app leads (omega arith) (followed rules options app (at.histories app) (at.used app) (logs_of at.histories) leader (tracked_in (at.histories app) leader + 1) (first_reading at.readings)) refl
 
-  turn_keeps : (done : List Step) (at : Place) (so : Stands done at) (pending : List (Name × Name)) (prompted : List Name) → at.pending ≡ pending → KeepsHere done (turn_of rules options openings at pending prompted)
-  turn_keeps done at so (p ∷ rest) prompted is =
+  turn_keeps : (done : List Step) (at : Place) (so : Stands done at) (chases : Chases rules options openings done at) (pending : List (Name × Name)) (prompted : List Name) → at.pending ≡ pending → at.prompted ≡ prompted → KeepsHere done (turn_of rules options openings at pending prompted)
+  turn_keeps done at so chases (p ∷ rest) prompted is prompts =
       let among : (q : Name × Name) → Contains (p ∷ rest) q → Contains rules.pairs q = λ q here. so.pending q (subst (λ ps. Contains ps q) (sym is) here) in
       next_keeps done at so p.0 p.1 rest (slice_get (log (at.histories p.0)) (tracked_in (at.histories p.1) p.0)) refl (among p (contains-here p rest)) (λ q here. among q (contains-later p rest q here))
-  turn_keeps done at so [] (leader ∷ prompted) is =
+  turn_keeps done at so chases [] (leader ∷ prompted) is prompts =
       idles_keeps done at (record at { prompted = prompted; pending = led_by rules.pairs leader }) so (idles done at prompted (led_by rules.pairs leader) so (contains-filter (λ p. bytes_eq p.0 leader) rules.pairs))
-  turn_keeps done at so [] [] is = line_keeps done at so at.lines refl
+  turn_keeps done at so chases [] [] is prompts = line_keeps done at so (all-caught rules options openings done at chases is prompts) at.lines refl
+
+  -- where a run stands, and how far the followers are
+  record Both (done : List Step) (at : Place) : Type 0 where
+    stands : Stands done at
+    chases : Chases rules options openings done at
+
+  both_kept : (done : List Step) (t : Turn) → KeepsHere done t → KeepsChase rules options openings done t → Keeps rules options openings Both Holds Ends done t
+  both_kept done (finished end) stands chases = stands
+  both_kept done (goes_on outcome next) stands chases = (stands.0, record { stands = stands.1; chases = chases.1 })
+
+  both_keep : (done : List Step) (at : Place) → Both done at → Keeps rules options openings Both Holds Ends done (turn_at rules options openings at)
+  both_keep done at so =
+      both_kept done (turn_at rules options openings at) (turn_keeps done at so.stands so.chases at.pending at.prompted refl refl) (turn-chases rules options openings done at so.chases at.pending at.prompted refl refl)
 
   start_stands : Stands [] (start rules openings readings lines)
   start_stands = record {
@@ -416,17 +472,21 @@ module _ (rules : Rules) (lawful : IsLawful rules) (options : Options) (openings
     numbered = refl;
     written = refl;
     granted = λ b declared. ap commands_in (drop_none (openings b));
+    seen = tt;
     later = λ m reading. reading;
     pending = λ p so. contains-none p so;
   }
 
+  start_both : Both [] (start rules openings readings lines)
+  start_both = record { stands = start_stands; chases = start-chases rules options openings readings lines }
+
   module _ (d : Run) (run : IsRun rules options openings (start rules openings readings lines) d) where
     steps_hold : (done rest : List Step) → d.steps ≡ done ++ rest → Holds done
     steps_hold done rest parts =
-        run-holds rules options openings Stands Holds Ends stands_holds (λ steps at so. turn_keeps steps at so at.pending at.prompted refl) (start rules openings readings lines) d start_stands run done rest parts
+        run-holds rules options openings Both Holds Ends (λ steps at so. stands_holds steps at so.stands) both_keep (start rules openings readings lines) d start_both run done rest parts
 
     all_end : Ends d.steps d.end
-    all_end = run-ends rules options openings Stands Holds Ends stands_holds (λ steps at so. turn_keeps steps at so at.pending at.prompted refl) (start rules openings readings lines) d start_stands run
+    all_end = run-ends rules options openings Both Holds Ends (λ steps at so. stands_holds steps at so.stands) both_keep (start rules openings readings lines) d start_both run
 
     -- what any first steps of the run leave is consistent
     pub run-consistent : (done rest : List Step) → d.steps ≡ done ++ rest → IsConsistent rules openings (left_by done openings)

@@ -12,7 +12,7 @@ use Rattle.es_lines.specs.declared.ends.End.{End}
 use Rattle.es_lines.specs.declared.replies.Reply.TheVariants.{Conflict}
 use Rattle.es_process.specs.Answer.{Options, Answer, says, accepts, ends, answer, differs, Followed, adds, stops, followed}
 use Rattle.es_process.specs.Decision.{Rules, logs_of}
-use Rattle.es_process.specs.Requests.{Request, command, no_request}
+use Rattle.es_process.specs.Requests.{Request, command, question, sync, stop, no_request}
 use Rattle.es_process.specs.SingleThread.{Place, Outcome, Turn, finished, goes_on, turn_at, turn_of, line_turn, request_turn, command_turn, next_turn, followed_turn, past_line, only_says, Step, records, writes, Run, steps_of, after, go_on, run_within, IsRun, left_by, written_by, as_line, Goes}
 
 -- where one part comes to an end alike, so does the whole
@@ -70,6 +70,9 @@ followed_leaves rules at app (adds r) = refl
 module _ (rules : Rules) (options : Options) (openings : Histories) where
   request_leaves : (at : Place) (lines : List Line) (r : Request) → Leaves at.histories (request_turn rules options at lines r)
   request_leaves at lines (no_request told) = refl
+  request_leaves at lines sync = refl
+  request_leaves at lines stop = refl
+  request_leaves at lines (question app reply) = refl
   request_leaves at lines (command app asked id expect) =
       elim (differs (at.histories app) id expect) as (λ b. Leaves at.histories (if b then goes_on (only_says (Conflict (latest (log (at.histories app)) id))) (past_line at lines) else command_turn at lines app (answer rules options.capacity app (at.histories app) (logs_of at.histories) asked id expect (first_reading at.readings)))) [
         | true ↦ refl

@@ -16,9 +16,13 @@ use Rattle.es_process.specs.declared.faults.RunFault.{RunFault}
 use Rattle.es_process.specs.declared.faults.RunFault.TheVariants as fault
 use Rattle.es_repo.specs.Verdicts.{command_verdict}
 use Rattle.es_lines.specs.CommandText.{command_text}
+use Rattle.es_lines.specs.Requests.{IsDeclared}
 use Rattle.es_lines.specs.declared.replies.Reply.{Reply}
-use Rattle.es_lines.specs.declared.replies.Reply.TheVariants.{Conflict}
+use Rattle.es_lines.specs.declared.request.Request.{Request}
+use Rattle.es_lines.specs.declared.request.Request.TheVariants.{Do, Get, Log, Tracking, Sync, Stop}
+use Rattle.es_lines.specs.declared.replies.Reply.TheVariants as reply
 use Rattle.es_process.specs.Answer.{Answer, says, accepts, ends, answer_of, differs, Followed, adds, stops}
+use Rattle.es_process.specs.Questions.{get_reply, log_reply, tracking_reply}
 use Rattle.es_process.specs.SystemRules.{decision_of}
 use Rattle.es_process.specs.Decision.{events}
 use Rattle.es_process.specs.Faults.{ByFault}
@@ -35,12 +39,39 @@ MayFailToAdd (fault.Unreadable name id) = ⊥
 -- the answer to a command of an application
 abbrev pub command_answer : System → ℕ → Name → List Recording → Command → ℤ → Answer
 command_answer sys capacity app h c at =
-    if differs h c.id c.expect then says (Conflict (latest (log h) c.id)) else
+    if differs h c.id c.expect then says (reply.Conflict (latest (log h) c.id)) else
     answer_of capacity app h (command_text app c) c.id at (decision_of app (command_verdict sys c at h))
 
 -- the readings to come after a command was answered: one was taken, unless the command expects another version
 abbrev pub readings_after : List Recording → Command → Readings → Readings
 readings_after h c r = if differs h c.id c.expect then r else later_readings r
+
+-- what may be asked of an application: a command that it has, or a question
+abbrev pub MayAsk : System → Name → Request → Type 0
+MayAsk sys app (Do other c) = IsDeclared sys app c
+MayAsk sys app (Get other id version) = Unit {0}
+MayAsk sys app (Log other section) = Unit {0}
+MayAsk sys app (Tracking other leader) = Unit {0}
+MayAsk sys app Sync = Unit {0}
+MayAsk sys app Stop = Unit {0}
+
+-- the answer to what a line asks of an application
+abbrev pub request_answer : System → ℕ → Name → List Recording → Request → ℤ → Answer
+request_answer sys capacity app h (Do other c) at = command_answer sys capacity app h c at
+request_answer sys capacity app h (Get other id version) at = says (get_reply sys app id version h)
+request_answer sys capacity app h (Log other section) at = says (log_reply sys app section h)
+request_answer sys capacity app h (Tracking other leader) at = says (tracking_reply leader h)
+request_answer sys capacity app h Sync at = says reply.Sync
+request_answer sys capacity app h Stop at = says reply.Stop
+
+-- the readings to come after it; a question takes none
+abbrev pub readings_left : List Recording → Request → Readings → Readings
+readings_left h (Do other c) r = readings_after h c r
+readings_left h (Get other id version) r = r
+readings_left h (Log other section) r = r
+readings_left h (Tracking other leader) r = r
+readings_left h Sync r = r
+readings_left h Stop r = r
 
 -- a reply was given, and what belongs to it was added
 abbrev pub Gives : Answer → List Recording → Reply → Option (List Recording) → Type 0

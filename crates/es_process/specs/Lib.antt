@@ -5,6 +5,7 @@ pub mod Drains
 pub mod Faults
 pub mod Follows
 pub mod Leaves
+pub mod Questions
 pub mod Reached
 pub mod Requests
 pub mod Session

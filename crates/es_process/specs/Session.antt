@@ -4,15 +4,16 @@ use Rattle.std.specs.Str.{bytes_eq}
 use Rattle.es_model.specs.declared.event.Recording.{Recording}
 use Rattle.es_model.specs.declared.event.Cause.{Cause}
 use Rattle.es_model.specs.declared.event.Cause.TheVariants.{Command, Notification}
-use Rattle.es_model.specs.History.{Histories}
+use Rattle.es_model.specs.History.{Histories, log}
 use Rattle.es_model.specs.Lines.{Line, text, long, over}
+use Rattle.es_model.specs.Tracking.{tracked_in}
 use Rattle.es_model.specs.Values.{Name, Id}
 use Rattle.es_io.specs.Readings.{Readings}
 use Rattle.es_lines.specs.declared.replies.Reply.{Reply}
-use Rattle.es_lines.specs.declared.replies.Reply.TheVariants.{Long}
+use Rattle.es_lines.specs.declared.replies.Reply.TheVariants.{Long, Sync, Stop}
 use Rattle.es_process.specs.Answer.{Options, Answer, says, accepts, answer, differs}
 use Rattle.es_process.specs.Decision.{Rules, logs_of}
-use Rattle.es_process.specs.Requests.{Request, command, no_request}
+use Rattle.es_process.specs.Requests.{Request, command, question, sync, stop, no_request}
 use Rattle.es_process.specs.SingleThread.{as_line, Step, records, writes}
 use Rattle.es_lines.specs.Texts.{reply_text}
 
@@ -47,6 +48,14 @@ pub record AnswersCommand (rules : Rules) (options : Options) (openings historie
   pub replied : answer rules options.capacity app (take x.mark (histories app)) (logs_of histories) asked id expect x.at ≡ answer_with x.added x.reply
   pub stands : IfSome x.added (λ y. IsAt histories app x.mark y)
 
+-- a line that asks a question is answered over the first recordings of the history, as many as the mark says, and adds nothing
+pub record AnswersQuestion (openings histories : Histories) (app : Name) (reply : List Recording → Reply) (x : Answered) : Type 0 where
+  pub named : x.app ≡ Some app
+  pub from : length (openings app) ≤ x.mark
+  pub upto : x.mark ≤ length (histories app)
+  pub replied : x.reply ≡ reply (take x.mark (histories app))
+  pub nothing : x.added ≡ None
+
 -- any other line gets its reply, and nothing else
 pub record AnswersNothing (reply : Reply) (x : Answered) : Type 0 where
   pub unnamed : x.app ≡ None
@@ -55,7 +64,44 @@ pub record AnswersNothing (reply : Reply) (x : Answered) : Type 0 where
 
 abbrev pub AnswersRequest : Rules → Options → Histories → Histories → Readings → Request → Answered → Type 0
 AnswersRequest rules options openings histories readings (no_request told) x = AnswersNothing told x
+AnswersRequest rules options openings histories readings sync x = AnswersNothing Sync x
+AnswersRequest rules options openings histories readings stop x = AnswersNothing Stop x
+AnswersRequest rules options openings histories readings (question app reply) x = AnswersQuestion openings histories app reply x
 AnswersRequest rules options openings histories readings (command app asked id expect) x = AnswersCommand rules options openings histories readings app asked id expect x
+
+-- how many of its application's recordings there were once a line was answered: those before its mark, and the one that it added
+abbrev pub past : ℕ → Option (Name × Recording) → ℕ
+past mark None = mark
+past mark (Some x) = mark + 1
+
+-- a line on a follower is answered over recordings that track all notifications of its leaders' openings
+abbrev pub SeesOpenings : Rules → Histories → Histories → Answered → Type 0
+SeesOpenings rules openings histories x =
+    (leader follower : Name) → Contains rules.pairs (leader, follower) → x.app ≡ Some follower → length (log (openings leader)) ≤ tracked_in (take x.mark (histories follower)) leader
+
+-- and all that there was once an earlier line was answered, where that is on a leader
+abbrev pub SeesLine : Rules → Histories → Answered → Answered → Type 0
+SeesLine rules histories earlier x =
+    (leader follower : Name) → Contains rules.pairs (leader, follower) → earlier.app ≡ Some leader → x.app ≡ Some follower → length (log (take (past earlier.mark earlier.added) (histories leader))) ≤ tracked_in (take x.mark (histories follower)) leader
+
+abbrev pub is_sync : Request → Bool
+is_sync sync = true
+is_sync stop = false
+is_sync (no_request told) = false
+is_sync (question app reply) = false
+is_sync (command app asked id expect) = false
+
+-- a line asks that the followers reach their leaders
+abbrev pub syncs : Rules → Line → Bool
+syncs rules (text t) = is_sync (rules.request t)
+syncs rules long = false
+syncs rules over = false
+
+-- each line behind one that asks so sees the openings, and each line before that one
+abbrev pub AreSynced : Rules → Histories → Histories → List Answered → Type 0
+AreSynced rules openings histories answered =
+    (before behind : List Answered) (s : Answered) → answered ≡ before ++ s ∷ behind → syncs rules s.line ≡ true
+    → (x : Answered) → Contains behind x → SeesOpenings rules openings histories x × ((earlier : Answered) → Contains before earlier → SeesLine rules histories earlier x)
 
 -- a line is answered as it has to be; one that doesn't end within the input's limit isn't answered
 abbrev pub AnswersLine : Rules → Options → Histories → Histories → Readings → Line → Answered → Type 0
@@ -123,13 +169,13 @@ IsOfFirst rules (long ∷ lines) x = ⊥
 IsOfFirst rules (over ∷ lines) x = ⊥
 
 -- the first so many of the lines were answered with these bytes: each as it has to be, and of each declared application's added recordings those whose cause is a command are what the accepted lines added, and at most one more, of the line that comes next, and none more at status 0
--- (there are no lines yet that wait for followers; what is promised of the marks after such a line comes with them)
 pub record IsSession (rules : Rules) (options : Options) (openings histories : Histories) (readings : Readings) (lines : List Line) (count : ℕ) (out : List ℕ) (status : ℕ) : Type 0 where
   pub answered : List Answered
   pub rest : List Line
   pub parts : lines ≡ lines_in answered ++ rest
   pub counted : count ≡ length answered
   pub each : AreAnswered rules options openings histories readings answered
+  pub synced : AreSynced rules openings histories answered
   pub written : out ≡ replies_in answered
   pub more : Option (Name × Recording)
   pub granted : (app : Name) → Contains rules.names app → commands_in (drop (length (openings app)) (histories app)) ≡ accepted_in app answered ++ if_of app more

@@ -1,5 +1,5 @@
 -- The run on one thread, as a machine of turns, and as its steps and its end.
-use Rattle.std.specs.Prelude.{◌≡◌, ℕ, zero, suc, ◌+◌, ◌-◌, Bool, not, ◌&&◌, List, [], ◌∷◌, ◌++◌, length, map, filter, slice_get, if◌then◌else◌, Option, Some, None}
+use Rattle.std.specs.Prelude.{◌≡◌, ℕ, zero, suc, ◌+◌, ◌-◌, Bool, true, false, not, ◌&&◌, List, [], ◌∷◌, ◌++◌, length, map, filter, slice_get, if◌then◌else◌, Option, Some, None}
 use Rattle.std.specs.Option.{option_map}
 use Rattle.std.specs.List.{list_any}
 use Rattle.std.specs.Str.{bytes_eq}
@@ -12,12 +12,12 @@ use Rattle.es_model.specs.Values.{Name}
 use Rattle.es_io.specs.Readings.{Readings, first_reading, later_readings}
 use Rattle.es_recorder.specs.Held.{put}
 use Rattle.es_lines.specs.declared.replies.Reply.{Reply}
-use Rattle.es_lines.specs.declared.replies.Reply.TheVariants.{Long, Conflict}
+use Rattle.es_lines.specs.declared.replies.Reply.TheVariants.{Long, Conflict, Sync, Stop}
 use Rattle.es_lines.specs.declared.ends.End.{End}
 use Rattle.es_lines.specs.declared.ends.End.TheVariants.{Ok, Over}
 use Rattle.es_process.specs.Answer.{Options, Answer, says, accepts, ends, answer, differs, Followed, adds, stops, followed}
 use Rattle.es_process.specs.Decision.{Rules, logs_of}
-use Rattle.es_process.specs.Requests.{Request, command, no_request}
+use Rattle.es_process.specs.Requests.{Request, command, question, sync, stop, no_request}
 use Rattle.es_lines.specs.Texts.{reply_text}
 
 -- where a run stands: the histories, the readings to come, how many notifications each follower has recorded in this run, the leaders that are prompted, the pairs of the last leader taken that are still to be tried, the lines to come, and how many were answered
@@ -68,9 +68,30 @@ command_turn at lines app (ends end) = finished end
 -- the turn of a line with a text
 abbrev pub request_turn : Rules → Options → Place → List Line → Request → Turn
 request_turn rules options at lines (no_request told) = goes_on (only_says told) (past_line at lines)
+request_turn rules options at lines (question app reply) = goes_on (only_says (reply (at.histories app))) (past_line at lines)
+request_turn rules options at lines sync = goes_on (only_says Sync) (past_line at lines)
+request_turn rules options at lines stop = goes_on (only_says Stop) (past_line at lines)
 request_turn rules options at lines (command app asked id expect) =
     if differs (at.histories app) id expect then goes_on (only_says (Conflict (latest (log (at.histories app)) id))) (past_line at lines) else
     command_turn at lines app (answer rules options.capacity app (at.histories app) (logs_of at.histories) asked id expect (first_reading at.readings))
+
+-- a line asks that no further line is answered
+abbrev pub is_stop : Request → Bool
+is_stop stop = true
+is_stop sync = false
+is_stop (no_request told) = false
+is_stop (question app reply) = false
+is_stop (command app asked id expect) = false
+
+abbrev pub stops_lines : Rules → Line → Bool
+stops_lines rules (text t) = is_stop (rules.request t)
+stops_lines rules long = false
+stops_lines rules over = false
+
+-- the lines up to the first that asks so
+abbrev pub up_to_stop : Rules → List Line → List Line
+up_to_stop rules [] = []
+up_to_stop rules (line ∷ lines) = line ∷ (if stops_lines rules line then [] else up_to_stop rules lines)
 
 -- the turn of the next line
 abbrev pub line_turn : Rules → Options → Histories → Place → List Line → Turn

@@ -16,12 +16,14 @@ use Rattle.es_repo.specs.declared.verdict.Verdict.{Verdict}
 use Rattle.es_repo.specs.declared.verdict.Verdict.TheVariants as verdict
 use Rattle.es_lines.specs.CommandText.{command_text}
 use Rattle.es_lines.specs.Requests.{Asked, asks, refused as not_asked, request_in}
+use Rattle.es_lines.specs.declared.request.Request.TheVariants.{Do, Get, Log, Tracking, Sync, Stop}
 use Rattle.es_lines.specs.declared.fault.LineFault.{LineFault}
 use Rattle.es_lines.specs.declared.fault.LineFault.TheVariants as line_fault
 use Rattle.es_lines.specs.declared.replies.Reply.{Reply}
 use Rattle.es_lines.specs.declared.replies.Reply.TheVariants as reply
 use Rattle.es_process.specs.Decision.{Rules, Logs, Decision, events, refused, unreadable}
-use Rattle.es_process.specs.Requests.{Request, command, no_request}
+use Rattle.es_process.specs.Questions.{get_reply, log_reply, tracking_reply}
+use Rattle.es_process.specs.Requests.{Request, command, question, sync, stop, no_request}
 
 -- something for each of some names, in byte order of the names
 abbrev pub in_order : {A : Type 0} → (Name → A) → List Name → List (Name × A)
@@ -43,7 +45,12 @@ decision_of app (verdict.Unreadable id) = unreadable app id
 
 -- what is decided on the command that a text asks; no cause but such a text comes to be decided
 abbrev pub decide_asked : System → Name → List Recording → ℤ → Asked → Decision
-decide_asked sys app before at (asks other c) = decision_of app (command_verdict sys c at before)
+decide_asked sys app before at (asks (Do other c)) = decision_of app (command_verdict sys c at before)
+decide_asked sys app before at (asks (Get other id version)) = refused [] 0
+decide_asked sys app before at (asks (Log other section)) = refused [] 0
+decide_asked sys app before at (asks (Tracking other leader)) = refused [] 0
+decide_asked sys app before at (asks Sync) = refused [] 0
+decide_asked sys app before at (asks Stop) = refused [] 0
 decide_asked sys app before at (not_asked fault) = refused [] 0
 
 -- what is decided on a leader's event, where the entry has a meaning
@@ -68,10 +75,15 @@ reply_to line_fault.Kind = reply.Kind
 reply_to line_fault.NoMemory = reply.Syntax
 
 -- a command is kept as its canonical text
-abbrev pub request_of : Asked → Request
-request_of (asks app c) = command app (command_text app c) c.id c.expect
-request_of (not_asked fault) = no_request (reply_to fault)
+abbrev pub request_of : System → Asked → Request
+request_of sys (asks (Do app c)) = command app (command_text app c) c.id c.expect
+request_of sys (asks (Get app id version)) = question app (get_reply sys app id version)
+request_of sys (asks (Log app section)) = question app (log_reply sys app section)
+request_of sys (asks (Tracking app leader)) = question app (tracking_reply leader)
+request_of sys (asks Sync) = sync
+request_of sys (asks Stop) = stop
+request_of sys (not_asked fault) = no_request (reply_to fault)
 
 -- the rules of a system
 abbrev pub rules_of : System → Rules
-rules_of sys = record { names = names_of sys; pairs = pairs_of sys.pipes; request = λ line. request_of (request_in sys line); decide = decide_cause sys }
+rules_of sys = record { names = names_of sys; pairs = pairs_of sys.pipes; request = λ line. request_of sys (request_in sys line); decide = decide_cause sys }

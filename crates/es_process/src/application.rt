@@ -18,14 +18,14 @@ ghost use Rattle.es_process.specs.Answer.{recording_of as recording_at, options,
 ghost use Rattle.es_process.specs.Decision.{Logs};
 ghost use Rattle.es_process.specs.SystemRules.{rules_of, decision_of};
 ghost use Rattle.es_process.specs.inner.Adding.{Fits, Adds, Takes, Records, Decides, MayRefuse};
-ghost use Rattle.es_process.specs.Leaves.{MayFailToAdd, Leaves, command_answer, readings_after, Processes, IsRecorded, Converts};
+ghost use Rattle.es_process.specs.Leaves.{MayAsk, MayFailToAdd, Leaves, command_answer, readings_after, request_answer, readings_left, Processes, IsRecorded, Converts};
 ghost use Rattle.es_process.specs.Traced.{Traced};
 ghost use Rattle.es_process.specs.Standing.{IsSame, IsSmall, IsNextAfter, MayFailToRead, Stays};
 
 use crate::faults::RunFault;
 use es_domain::Command;
 use es_io::Clock;
-use es_lines::{Reply, command_text};
+use es_lines::{Reply, Request, command_text};
 use es_mapper::{MapFault, to_domain};
 use es_model::{
     Cause, DomainEvent, Duplicate, Moment, NoMemory, Notification, Recording, StoredEvent,
@@ -171,9 +171,40 @@ impl<R: ProcessRecorder> Application<R> {
         }
     }
 
-    /// Answers a command: a recording is added unless it is refused. One reading of the clock is taken,
-    /// unless the command expects another version.
+    /// Answers what a line asks of it. A command adds a recording unless it is refused, and takes one reading of the
+    /// clock unless it expects another version; a question changes nothing.
     pub fn answer<C: Clock>(
+        &mut self,
+        alloc: Global,
+        sys: &System,
+        request: &Request,
+        clock: &mut C,
+    ) -> Result<Reply, RunFault>
+        requires checked { IsCheckedSystem sys.now }
+        requires asked { MayAsk sys.now self.old.name request.now }
+        ensures leaves { Traced (C.readings clock.old) (C.readings clock.new) (λ before after. (h : List Recording) (r : Readings) → R.history self.old.recorder ≡ Some h → before ≡ Some r
+            → Leaves (request_answer sys.now (R.capacity self.old.recorder) self.old.name h request.now (first_reading r)) h result (R.history self.new.recorder) × OnOk result (after ≡ Some (readings_left h request.now r))) }
+        ensures faults { IfErr result MayFailToAdd }
+        ensures same { Stays R.capacity R.snapshots R.faults self.old self.new }
+        ensures same_used { self.new.used ≡ self.old.used }
+        ensures failed { IsErrOf result RunFault.Recorder → Rose (R.faults self.old.recorder) (R.faults self.new.recorder) }
+    {
+        match request {
+            Request::Do { app: _, command } => self.answer_command(alloc, sys, command, clock),
+            Request::Get {
+                app: _,
+                id,
+                version,
+            } => self.get(alloc, sys, *id, *version),
+            Request::Log { app: _, section } => self.log(sys, section),
+            Request::Tracking { app: _, leader } => self.position(leader),
+            Request::Sync => Ok(Reply::Sync),
+            Request::Stop => Ok(Reply::Stop),
+        }
+    }
+
+    // Answers a command.
+    fn answer_command<C: Clock>(
         &mut self,
         alloc: Global,
         sys: &System,

@@ -7,6 +7,7 @@
 mod application;
 mod draining;
 mod faults;
+mod questions;
 
 pub use application::{Application, Processed, convert};
 pub use draining::{Pair, drain};

@@ -1,6 +1,6 @@
 -- What events make, one after the other, is what is read of their notifications.
-use Rattle.std.proofs.Common.{◌≡◌, ◌∙◌, ◌+◌, ◌<◌, ◌-◌, ◌^◌, ℕ, false, List, [], ◌∷◌, ◌++◌, map, Option, None, Some, Result, Ok, IfSome, refl, sym, ap, subst}
-use Rattle.es_model.specs.History.{log, own, IsFormed}
+use Rattle.std.proofs.Common.{◌≡◌, ◌∙◌, ◌<◌, ◌^◌, ℕ, false, List, [], ◌∷◌, ◌++◌, map, Option, None, Some, Result, Ok, IfSome, refl, sym, ap, subst}
+use Rattle.es_model.specs.History.{log, IsFormed}
 use Rattle.es_model.specs.Values.{Id}
 use Rattle.es_model.specs.declared.declaration.System.{System}
 use Rattle.es_model.specs.declared.domain_event.DomainEvent.{DomainEvent}
@@ -14,16 +14,20 @@ use Rattle.es_domain.specs.Readings.{folded, unreadable}
 use Rattle.es_domain.specs.Steps.{HasItsFields}
 use Rattle.es_domain.specs.declared.aggregate.Aggregate.{Aggregate}
 use Rattle.es_domain.specs.declared.find.FindFault.{FindFault}
-use Rattle.es_recorder.specs.Selections.{notification_of, select_events}
+use Rattle.es_recorder.specs.Selections.{is_upto, notification_of, select_events}
 use Rattle.es_repo.specs.inner.Reader.{after_event, folded_from, Reads}
-use Rattle.es_repo.specs.Readings.{notifications_of, advanced_by, after_entry, read_from, readings_of}
+use Rattle.es_repo.specs.Readings.{notifications_of, notifications_upto, advanced_by, after_entry, read_from, reading_at}
 use Rattle.es_repo.specs.declared.folding.Folded.{Folded}
 use Rattle.es_repo.specs.declared.folding.Folded.TheVariants.{Whole, Stuck}
-use Rattle.es_repo.proofs.LogLemmas.{all-selected, events-of, place-of}
-use Rattle.es_repo.proofs.StandingLemmas.{advanced-made, standing}
+use Rattle.es_repo.proofs.LogLemmas.{events-upto, part-of-all, place-of}
+use Rattle.es_repo.proofs.StandingLemmas.{advanced-made, standing-at}
 
 abbrev event : Notification → StoredEvent
 event n = n.event
+
+-- the events that are selected of an originator up to a version
+abbrev pub events_upto : List Recording → Id → Option ℕ → List StoredEvent
+events_upto h id upto = select_events (log h) id None upto false None
 
 -- the first entry without a meaning is an entry of this version
 pub record IsStuck (sys : System) (found : Option Aggregate) (ns : List Notification) (version : ℕ) : Type 0 where
@@ -68,16 +72,17 @@ module _ (sys : System) where
   read-as found [] = refl
   read-as found (n ∷ ns) = read-step found n ns (advanced_by sys found (event_of sys n.event)) refl (λ a. read-as (Some a) ns)
 
-  -- what is read of an originator, by what its events make
-  pub read-of : (h : List Recording) (id : Id) (f : Folded) → f ≡ folded_from sys None (own (log h) id) → IsReadAs sys None (notifications_of (log h) id) f
-  read-of h id f is =
-      subst (IsReadAs sys None (notifications_of (log h) id)) (ap (folded_from sys None) (events-of id (log h)) ∙ sym is) (read-as None (notifications_of (log h) id))
+  -- what is read of an originator at a version, by what its events make
+  pub read-of : (h : List Recording) (id : Id) (upto : Option ℕ) (f : Folded) → f ≡ folded_from sys None (events_upto h id upto) → IsReadAs sys None (notifications_upto (log h) id upto) f
+  read-of h id upto f is =
+      subst (IsReadAs sys None (notifications_upto (log h) id upto)) (ap (folded_from sys None) (events-upto id (log h) upto) ∙ sym is) (read-as None (notifications_upto (log h) id upto))
 
-  pub stuck-reads : (h : List Recording) (id : Id) (version : ℕ) (result : Result (Option Aggregate) FindFault) → IsFormed h → Stuck version ≡ folded_from sys None (own (log h) id)
-      → ((n : ℕ) → notification_of (log h) id version ≡ Some n → Reads (unreadable n) result) → Reads (readings_of sys (log h) id) result
-  stuck-reads h id version result formed is answers =
-      let s = read-of h id (Stuck version) is in
-      let place = place-of id h s.before s.entry s.after formed s.parts in
+  pub stuck-reads : (h : List Recording) (id : Id) (upto : Option ℕ) (version : ℕ) (result : Result (Option Aggregate) FindFault) → IsFormed h → Stuck version ≡ folded_from sys None (events_upto h id upto)
+      → ((n : ℕ) → notification_of (log h) id version ≡ Some n → Reads (unreadable n) result) → Reads (reading_at sys (log h) id upto) result
+  stuck-reads h id upto version result formed is answers =
+      let s = read-of h id upto (Stuck version) is in
+      let all = part-of-all id (λ n. is_upto upto n.event.originator_version) s.entry s.after (notifications_of (log h) id) s.before s.parts in
+      let place = place-of id h all.0 s.entry all.1 formed all.2 in
       subst (λ r. Reads r result) (sym s.reading) (answers s.entry.id (ap (notification_of (log h) id) (sym s.version_is) ∙ place))
 
 -- ---- what is known of an aggregate that is made
@@ -102,30 +107,33 @@ after-below sys found (Some b) e s small below fields named is = made-below sys 
 
 -- ---- what is answered
 
-whole-of : (sys : System) (h : List Recording) (id : Id) (found : Option Aggregate) → Whole found ≡ folded_from sys None (own (log h) id) → IfSome found (λ a. a.id ≡ id)
-whole-of sys h id None is = tt
-whole-of sys h id (Some a) is = (standing sys (log h) id (Some a) (read-of sys h id (Whole (Some a)) is)).id_is
+whole-of : (sys : System) (h : List Recording) (id : Id) (upto : Option ℕ) (found : Option Aggregate) → Whole found ≡ folded_from sys None (events_upto h id upto) → IfSome found (λ a. a.id ≡ id)
+whole-of sys h id upto None is = tt
+whole-of sys h id upto (Some a) is = standing-at sys (log h) id upto a (read-of sys h id upto (Whole (Some a)) is)
 
 -- an aggregate of the id is answered
-pub whole-reads : (sys : System) (h : List Recording) (id : Id) (found : Option Aggregate) (result : Result (Option Aggregate) FindFault) → (IfSome found (λ a. a.id ≡ id) → result ≡ Ok found) → Whole found ≡ folded_from sys None (own (log h) id) → Reads (readings_of sys (log h) id) result
-whole-reads sys h id found result answers is =
-    subst (Reads (readings_of sys (log h) id)) (sym (answers (whole-of sys h id found is))) (read-of sys h id (Whole found) is)
+pub whole-reads : (sys : System) (h : List Recording) (id : Id) (upto : Option ℕ) (found : Option Aggregate) (result : Result (Option Aggregate) FindFault) → (IfSome found (λ a. a.id ≡ id) → result ≡ Ok found) → Whole found ≡ folded_from sys None (events_upto h id upto)
+    → Reads (reading_at sys (log h) id upto) result
+whole-reads sys h id upto found result answers is =
+    subst (Reads (reading_at sys (log h) id upto)) (sym (answers (whole-of sys h id upto found is))) (read-of sys h id upto (Whole found) is)
 
 -- the same where the history is told
-pub whole-told : (sys : System) (history : Option (List Recording)) (id : Id) (f : Folded) (found : Option Aggregate) (result : Result (Option Aggregate) FindFault) → f ≡ Whole found → (IfSome found (λ a. a.id ≡ id) → result ≡ Ok found)
-    → IfSome history (λ h. f ≡ folded_from sys None (own (log h) id) → Reads (readings_of sys (log h) id) result)
-whole-told sys None id f found result is answers = tt
-whole-told sys (Some h) id f found result is answers = λ folds. whole-reads sys h id found result answers (sym is ∙ folds)
+abbrev AnswersTold : System → Option (List Recording) → Id → Option ℕ → Folded → Result (Option Aggregate) FindFault → Type 0
+AnswersTold sys history id upto f result = IfSome history (λ h. f ≡ folded_from sys None (events_upto h id upto) → Reads (reading_at sys (log h) id upto) result)
 
-pub stuck-told : (sys : System) (history : Option (List Recording)) (id : Id) (f : Folded) (version : ℕ) (result : Result (Option Aggregate) FindFault) → IfSome history IsFormed → f ≡ Stuck version
-    → IfSome history (λ h. (n : ℕ) → notification_of (log h) id version ≡ Some n → Reads (unreadable n) result) → IfSome history (λ h. f ≡ folded_from sys None (own (log h) id) → Reads (readings_of sys (log h) id) result)
-stuck-told sys None id f version result formed is answers = tt
-stuck-told sys (Some h) id f version result formed is answers = λ folds. stuck-reads sys h id version result formed (sym is ∙ folds) answers
+pub whole-told : (sys : System) (history : Option (List Recording)) (id : Id) (upto : Option ℕ) (f : Folded) (found : Option Aggregate) (result : Result (Option Aggregate) FindFault) → f ≡ Whole found → (IfSome found (λ a. a.id ≡ id) → result ≡ Ok found)
+    → AnswersTold sys history id upto f result
+whole-told sys None id upto f found result is answers = tt
+whole-told sys (Some h) id upto f found result is answers = λ folds. whole-reads sys h id upto found result answers (sym is ∙ folds)
+
+pub stuck-told : (sys : System) (history : Option (List Recording)) (id : Id) (upto : Option ℕ) (f : Folded) (version : ℕ) (result : Result (Option Aggregate) FindFault) → IfSome history IsFormed → f ≡ Stuck version
+    → IfSome history (λ h. (n : ℕ) → notification_of (log h) id version ≡ Some n → Reads (unreadable n) result) → AnswersTold sys history id upto f result
+stuck-told sys None id upto f version result formed is answers = tt
+stuck-told sys (Some h) id upto f version result formed is answers = λ folds. stuck-reads sys h id upto version result formed (sym is ∙ folds) answers
 
 -- what is selected and folded is read
-pub selected-told : (sys : System) (history now : Option (List Recording)) (id : Id) (es : List StoredEvent) (f : Folded) (result : Result (Option Aggregate) FindFault) → now ≡ history → IfSome history (λ h. es ≡ select_events (log h) id None None false None)
-    → f ≡ folded_from sys None es → IfSome now (λ h. f ≡ folded_from sys None (own (log h) id) → Reads (readings_of sys (log h) id) result) → IfSome history (λ h. Reads (readings_of sys (log h) id) result)
-selected-told sys None now id es f result same are folds reads = tt
-selected-told sys (Some h) now id es f result same are folds reads =
-    let all : es ≡ own (log h) id = are ∙ all-selected (log h) id in
-    subst (λ o. IfSome o (λ g. f ≡ folded_from sys None (own (log g) id) → Reads (readings_of sys (log g) id) result)) same reads (folds ∙ ap (folded_from sys None) all)
+pub selected-told : (sys : System) (history now : Option (List Recording)) (id : Id) (upto : Option ℕ) (es : List StoredEvent) (f : Folded) (result : Result (Option Aggregate) FindFault) → now ≡ history → IfSome history (λ h. es ≡ events_upto h id upto)
+    → f ≡ folded_from sys None es → AnswersTold sys now id upto f result → IfSome history (λ h. Reads (reading_at sys (log h) id upto) result)
+selected-told sys None now id upto es f result same are folds reads = tt
+selected-told sys (Some h) now id upto es f result same are folds reads =
+    subst (λ o. AnswersTold sys o id upto f result) same reads (folds ∙ ap (folded_from sys None) are)

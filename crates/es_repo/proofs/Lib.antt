@@ -1,5 +1,6 @@
 pub mod FoldingLemmas
 pub mod FollowsLemmas
+pub mod GetsLemmas
 pub mod JudgeLemmas
 pub mod LogLemmas
 pub mod ReadingLemmas

@@ -1,5 +1,5 @@
 -- The notifications of an originator in a log.
-use Rattle.std.proofs.Common.{◌≡◌, ◌∙◌, ◌+◌, ◌<◌, ◌≤◌, ◌^◌, ◌==◌, ◌&&◌, ℕ, Bool, true, false, List, [], ◌∷◌, ◌++◌, map, None, Some, refl, sym, ap, subst, arith}
+use Rattle.std.proofs.Common.{◌≡◌, ◌∙◌, ◌+◌, ◌<◌, ◌≤◌, ◌^◌, ◌==◌, ℕ, Bool, true, false, List, [], ◌∷◌, ◌++◌, map, Option, None, Some, refl, sym, ap, subst, arith}
 use Rattle.std.specs.Prelude.{All, filter}
 use Rattle.std.specs.List.{position_from}
 use Rattle.std.specs.Str.{bytes_eq}
@@ -13,18 +13,19 @@ use Rattle.es_model.specs.declared.event.Recording.{Recording}
 use Rattle.es_model.specs.declared.event.StoredEvent.{StoredEvent}
 use Rattle.es_model.proofs.HistoryLemmas.{latest-append, both_true}
 use Rattle.es_domain.specs.Readings.{IsOwn}
-use Rattle.es_recorder.specs.Selections.{select_events, numbered_from, is_version, notification_of}
+use Rattle.es_recorder.specs.Selections.{is_upto, select_events, numbered_from, is_version, notification_of}
 use Rattle.es_recorder.proofs.SelectionLemmas.{versions-small}
-use Rattle.es_repo.specs.Readings.{notifications_of}
+use Rattle.es_repo.specs.Readings.{notifications_of, notifications_upto}
 
--- ---- all events of an originator are selected
+-- ---- the notifications of an originator up to a version
 
-kept-all : (es : List StoredEvent) → filter (λ e. true && true) es ≡ es
-kept-all [] = refl
-kept-all (e ∷ es) = ap (λ xs. e ∷ xs) (kept-all es)
+all-kept : (ns : List Notification) → filter (λ n. true) ns ≡ ns
+all-kept [] = refl
+all-kept (n ∷ ns) = ap (λ ms. n ∷ ms) (all-kept ns)
 
-pub all-selected : (events : List StoredEvent) (id : Id) → select_events events id None None false None ≡ own events id
-all-selected events id = kept-all (own events id)
+-- up to the latest version they are all
+pub upto-latest : (events : List StoredEvent) (id : Id) → notifications_upto events id None ≡ notifications_of events id
+upto-latest events id = all-kept (notifications_of events id)
 
 -- the notifications of an originator among numbered events
 abbrev pub entries : Id → ℕ → List StoredEvent → List Notification
@@ -42,6 +43,20 @@ module _ (id : Id) where
   -- their events are those of the originator
   pub events-of : (events : List StoredEvent) → map (λ n. n.event) (notifications_of events id) ≡ own events id
   events-of events = events-from 1 events
+
+  test-step : (p : StoredEvent → Bool) (b : Bool) (n : Notification) (ns : List Notification) → p n.event ≡ b → map (λ m. m.event) (filter (λ m. p m.event) ns) ≡ filter p (map (λ m. m.event) ns)
+      → map (λ m. m.event) (filter (λ m. p m.event) (n ∷ ns)) ≡ filter p (map (λ m. m.event) (n ∷ ns))
+  test-step p true n ns is rest = rw is (ap (λ es. n.event ∷ es) rest)
+  test-step p false n ns is rest = rw is rest
+
+  tested : (p : StoredEvent → Bool) (ns : List Notification) → map (λ n. n.event) (filter (λ n. p n.event) ns) ≡ filter p (map (λ n. n.event) ns)
+  tested p [] = refl
+  tested p (n ∷ ns) = test-step p (p n.event) n ns refl (tested p ns)
+
+  -- the events of those up to a version are the selected ones
+  pub events-upto : (events : List StoredEvent) (version : Option ℕ) → map (λ n. n.event) (notifications_upto events id version) ≡ select_events events id None version false None
+  events-upto events version =
+      tested (λ e. is_upto version e.originator_version) (notifications_of events id) ∙ ap (filter (λ e. is_upto version e.originator_version)) (events-of events)
 
   own-step : (b : Bool) (first : ℕ) (e : StoredEvent) (es : List StoredEvent) → bytes_eq e.originator_id id ≡ b → e.originator_version < 2 ^ 62 → All (IsOwn id) (entries id (first + 1) es) → All (IsOwn id) (entries id first (e ∷ es))
   own-step true first e es is small rest =
@@ -143,6 +158,31 @@ module _ (id : Id) where
   placed : (version first : ℕ) (es : List StoredEvent) → IsPlaced version first es
   placed version first [] = λ before n after are parts. absurd (no-parts before n after parts)
   placed version first (e ∷ es) = place-step (bytes_eq e.originator_id id) version first e es refl (placed (version + 1) (first + 1) es) (placed version (first + 1) es)
+
+  -- what is part of some of a list is part of all of it
+  abbrev AreParts : List Notification → Notification → Type 0
+  AreParts ns n = (before : List Notification) × (after : List Notification) × (ns ≡ before ++ n ∷ after)
+
+  part-behind : (m n : Notification) (ns : List Notification) → AreParts ns n → AreParts (m ∷ ns) n
+  part-behind m n ns parts = (m ∷ parts.0, parts.1, ap (λ ms. m ∷ ms) parts.2)
+
+  part-kept : (m n : Notification) (ns kept before after : List Notification) → m ∷ kept ≡ before ++ n ∷ after → ((front : List Notification) → kept ≡ front ++ n ∷ after → AreParts ns n) → AreParts (m ∷ ns) n
+  part-kept m n ns kept [] after is rest = ([], ns, ap (λ x. x ∷ ns) (head-is m n kept after is))
+  part-kept m n ns kept (b ∷ before) after is rest = part-behind m n ns (rest before (tail-is m b kept (before ++ n ∷ after) is))
+
+  pub part-of-all : (p : Notification → Bool) (n : Notification) (after ns before : List Notification) → filter p ns ≡ before ++ n ∷ after → AreParts ns n
+  part-of-all p n after [] before is = absurd (no-parts before n after is)
+  part-of-all p n after (m ∷ ns) before is = by-test (p m) refl (λ front rest. part-of-all p n after ns front rest)
+    where
+      by-test : (b : Bool) → p m ≡ b → ((front : List Notification) → filter p ns ≡ front ++ n ∷ after → AreParts ns n) → AreParts (m ∷ ns) n
+      by-test true test rest = part-kept m n ns (filter p ns) before after (sym (kept-step true test) ∙ is) rest
+        where
+          kept-step : (b : Bool) → p m ≡ true → filter p (m ∷ ns) ≡ m ∷ filter p ns
+          kept-step b t = rw t refl
+      by-test false test rest = part-behind m n ns (rest before (sym (left-step test) ∙ is))
+        where
+          left-step : p m ≡ false → filter p (m ∷ ns) ≡ filter p ns
+          left-step t = rw t refl
 
   -- the notification id of an event of the originator is its place in the log
   pub place-of : (h : List Recording) (before : List Notification) (n : Notification) (after : List Notification) → IsFormed h → notifications_of (log h) id ≡ before ++ n ∷ after → notification_of (log h) id n.event.originator_version ≡ Some n.id

@@ -1,5 +1,6 @@
 -- An aggregate that is read of a log stands at the number of its events.
 use Rattle.std.proofs.Common.{◌≡◌, ◌∙◌, ◌+◌, ℕ, Bool, true, false, List, [], ◌∷◌, map, Option, None, Some, length, refl, sym, ap, subst, arith}
+use Rattle.std.specs.Prelude.{filter}
 use Rattle.std.specs.Str.{bytes_eq}
 use Rattle.std.proofs.lemmas.Slice.Eq.{bytes_eq-Decides}
 use Rattle.es_model.specs.History.{latest}
@@ -14,7 +15,8 @@ use Rattle.es_domain.specs.Fold.{advanced}
 use Rattle.es_domain.specs.Readings.{folded}
 use Rattle.es_domain.specs.declared.aggregate.Aggregate.{Aggregate}
 use Rattle.es_domain.proofs.NextLemmas.{IsMade, next_version, new_events, made-by, made-is, StandsAs, StandsAt}
-use Rattle.es_repo.specs.Readings.{notifications_of, advanced_by, after_entry, read_from, readings_of}
+use Rattle.es_recorder.specs.Selections.{is_upto}
+use Rattle.es_repo.specs.Readings.{notifications_of, notifications_upto, advanced_by, after_entry, read_from, readings_of, reading_at}
 use Rattle.es_repo.proofs.LogLemmas.{entries, events-of}
 
 -- the same by a stored event
@@ -40,6 +42,15 @@ of-step id false first e es is rest = rw is rest
 entries-of : (id : Id) (first : ℕ) (es : List StoredEvent) → AreOf id (entries id first es)
 entries-of id first [] = tt
 entries-of id first (e ∷ es) = of-step id (bytes_eq e.originator_id id) first e es refl (entries-of id (first + 1) es)
+
+-- some of them
+some-step : (id : Id) (p : Notification → Bool) (b : Bool) (n : Notification) (ns : List Notification) → p n ≡ b → n.event.originator_id ≡ id → AreOf id (filter p ns) → AreOf id (filter p (n ∷ ns))
+some-step id p true n ns is of rest = rw is (of, rest)
+some-step id p false n ns is of rest = rw is rest
+
+some-of : (id : Id) (p : Notification → Bool) (ns : List Notification) → AreOf id ns → AreOf id (filter p ns)
+some-of id p [] are = tt
+some-of id p (n ∷ ns) are = some-step id p (p n) n ns refl are.0 (some-of id p ns are.1)
 
 next-stands : (id : Id) (version : ℕ) (found : Option Aggregate) → StandsAt id version found → (next_version found ≡ version + 1) × (new_events found ≡ [])
 next-stands id version None none = (omega (arith, none), refl)
@@ -81,3 +92,9 @@ standing sys events id now is =
     let count : length ns ≡ latest events id = sym (length-map (λ (n : Notification). n.event) ns) ∙ ap length (events-of id events) in
     let from-none : 0 + length ns ≡ latest events id = omega (arith, count) in
     subst (λ v. StandsAt id v now) from-none (stands-read sys id 0 None ns now (entries-of id 1 events) refl is)
+
+-- one that is read at a version is the originator's
+pub standing-at : (sys : System) (events : List StoredEvent) (id : Id) (version : Option ℕ) (a : Aggregate) → reading_at sys events id version ≡ folded (Some a) → a.id ≡ id
+standing-at sys events id version a is =
+    let stands = stands-read sys id 0 None (notifications_upto events id version) (Some a) (some-of id (λ n. is_upto version n.event.originator_version) (notifications_of events id) (entries-of id 1 events)) refl is in
+    stands.id_is

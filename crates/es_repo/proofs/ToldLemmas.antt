@@ -15,8 +15,8 @@ use Rattle.es_domain.specs.declared.find.FindFault.{FindFault}
 use Rattle.es_domain.specs.declared.find.FindFault.TheVariants.{Unreadable, Failed, NoMemory}
 use Rattle.es_domain.proofs.ToldLemmas.{item-cons}
 use Rattle.es_repo.specs.inner.Reader.{told_by, told_of, is_among, noted, Notes, Reads}
-use Rattle.es_repo.specs.Readings.{notifications_of, readings_of}
-use Rattle.es_repo.proofs.LogLemmas.{all-own}
+use Rattle.es_repo.specs.Readings.{notifications_of, read_from, readings_of, reading_at}
+use Rattle.es_repo.proofs.LogLemmas.{all-own, upto-latest}
 use Rattle.es_repo.proofs.ReadingLemmas.{reading-is, only-reading}
 
 module _ (h : List Recording) (id : Id) where
@@ -64,11 +64,12 @@ module _ (h : List Recording) (id : Id) where
     finds asked new answer (Err NoMemory) formed reads notes = ap (λ xs. told_by xs h) notes
 
 -- a reader answers by what it tells
-pub finds-told : (sys : System) (id : Id) (old now : Option (List Recording)) (asked new : List Id) (answer result : Result (Option Aggregate) FindFault) → IfSome old IsFormed → now ≡ old → IfSome old (λ h. Reads (readings_of sys (log h) id) answer)
+pub finds-told : (sys : System) (id : Id) (old now : Option (List Recording)) (asked new : List Id) (answer result : Result (Option Aggregate) FindFault) → IfSome old IsFormed → now ≡ old → IfSome old (λ h. Reads (reading_at sys (log h) id None) answer)
     → Notes asked id answer new result → FindsTold sys (told_of asked old) id (told_of new now) result
 finds-told sys id None now asked new answer result formed same reads notes = ap (told_of new) same
 finds-told sys id (Some h) now asked new answer result formed same reads notes =
-    subst (λ o. FindsTold sys (Some (told_by asked h)) id (told_of new o) result) (sym same) (finds h id sys asked new answer result formed reads notes)
+    let latest : reading_at sys (log h) id None ≡ readings_of sys (log h) id = ap (read_from sys None) (upto-latest (log h) id) in
+    subst (λ o. FindsTold sys (Some (told_by asked h)) id (told_of new o) result) (sym same) (finds h id sys asked new answer result formed (subst (λ r. Reads r answer) latest reads) notes)
 
 -- ---- over all that was told
 

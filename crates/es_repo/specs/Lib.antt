@@ -1,4 +1,5 @@
 pub mod Readings
+pub mod Repository
 pub mod Same
 pub mod Verdicts
 pub mod inner

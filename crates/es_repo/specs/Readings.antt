@@ -11,11 +11,15 @@ use Rattle.es_domain.specs.Effect.{made}
 use Rattle.es_domain.specs.Fold.{advanced}
 use Rattle.es_domain.specs.Readings.{Reading, folded, unreadable, Readings}
 use Rattle.es_domain.specs.declared.aggregate.Aggregate.{Aggregate}
-use Rattle.es_recorder.specs.Selections.{notifications}
+use Rattle.es_recorder.specs.Selections.{notifications, is_upto}
 
 -- the events of an originator, with their places in the log
 abbrev pub notifications_of : List StoredEvent → Id → List Notification
 notifications_of events id = filter (λ n. bytes_eq n.event.originator_id id) (notifications events)
+
+-- those of them at versions up to a bound that is given
+abbrev pub notifications_upto : List StoredEvent → Id → Option ℕ → List Notification
+notifications_upto events id version = filter (λ n. is_upto version n.event.originator_version) (notifications_of events id)
 
 -- what an event makes of no aggregate, or of one, where it has a meaning there
 abbrev pub advanced_by : System → Option Aggregate → Option DomainEvent → Option Aggregate
@@ -34,3 +38,7 @@ read_from sys found (n ∷ ns) = after_entry n.id (advanced_by sys found (event_
 -- what is read of each aggregate of a log
 abbrev pub readings_of : System → List StoredEvent → Readings
 readings_of sys events id = read_from sys None (notifications_of events id)
+
+-- what is read of one at a version; at its latest one where none is given
+abbrev pub reading_at : System → List StoredEvent → Id → Option ℕ → Reading
+reading_at sys events id version = read_from sys None (notifications_upto events id version)

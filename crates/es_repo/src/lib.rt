@@ -1,14 +1,16 @@
-//! What an application decides over its recorder.
+//! The aggregates that a recorder keeps, and what an application decides over it.
 //!
-//! An aggregate is read by folding all events of its id. The definitions that contracts cite are in
-//! `specs/`: what is read of each aggregate of a log, and what a command and a policy decide over a
-//! history.
+//! An aggregate is read by folding the events of its id, all of them or those up to a version. The definitions
+//! that contracts cite are in `specs/`: what is read of each aggregate of a log, what a repository answers,
+//! and what a command and a policy decide over a history.
 #![tactic(auto)]
 
 mod folding;
 mod judge;
 mod reader;
+mod repository;
 mod verdict;
 
 pub use judge::{judge_command, judge_policy};
+pub use repository::{RepoFault, Repository};
 pub use verdict::Verdict;

@@ -1,11 +1,11 @@
-ghost use Rattle.std.specs.Prelude.{◌≡◌, ℕ, IfOk, IfSome, Some, None, Ok, Err, OnOk, OnErr};
-ghost use Rattle.es_model.specs.History.{log, own};
+ghost use Rattle.std.specs.Prelude.{◌≡◌, ℕ, false, Option, IfOk, IfSome, Some, None, Ok, Err, OnOk, OnErr};
+ghost use Rattle.es_model.specs.History.{log};
 ghost use Rattle.es_model.specs.declared.declaration.System.{System};
 ghost use Rattle.es_expr.specs.Checked.{IsCheckedSystem};
 ghost use Rattle.es_domain.specs.Readings.{unreadable, IsFound, FindHasCause};
 ghost use Rattle.es_domain.specs.declared.find.FindFault.TheVariants as find_faults;
-ghost use Rattle.es_recorder.specs.Selections.{notification_of};
-ghost use Rattle.es_repo.specs.Readings.{readings_of};
+ghost use Rattle.es_recorder.specs.Selections.{notification_of, select_events};
+ghost use Rattle.es_repo.specs.Readings.{reading_at};
 ghost use Rattle.es_repo.specs.Same.{IsSameRecorder};
 ghost use Rattle.es_repo.specs.inner.Reader.{folded_from, is_among, IsWhole, noted, Notes, Reads};
 
@@ -84,7 +84,7 @@ fn answer<R: ApplicationRecorder>(
     id: Uuid,
     folded: Folded,
 ) -> Result<Option<Aggregate>, FindFault>
-    ensures reading { (sys : System) → IfSome (R.history recorder.old) (λ h. folded ≡ folded_from sys None (own (log h) id) → Reads (readings_of sys (log h) id) result) }
+    ensures reading { (sys : System) (version : Option ℕ) → IfSome (R.history recorder.old) (λ h. folded ≡ folded_from sys None (select_events (log h) id None version false None) → Reads (reading_at sys (log h) id version) result) }
     ensures found { (sys : System) → IsWhole sys folded → IfOk result (λ found. IfSome found (IsFound sys id)) }
     ensures same { IsSameRecorder R.history R.snapshots R.capacity recorder.old recorder.new }
     ensures cause { FindHasCause (R.faults recorder.old) (R.faults recorder.new) result }
@@ -95,20 +95,21 @@ fn answer<R: ApplicationRecorder>(
     }
 }
 
-// The aggregate of an id, by all its events.
-fn read<R: ApplicationRecorder>(
+/// The aggregate of an id at a version, by all its events up to it; at its latest one where none is given.
+pub(crate) fn read<R: ApplicationRecorder>(
     alloc: Global,
     sys: &System,
     recorder: &mut R,
     id: Uuid,
+    version: Option<u64>,
 ) -> Result<Option<Aggregate>, FindFault>
     requires checked { IsCheckedSystem sys.now }
-    ensures reading { IfSome (R.history recorder.old) (λ h. Reads (readings_of sys.now (log h) id) result) }
+    ensures reading { IfSome (R.history recorder.old) (λ h. Reads (reading_at sys.now (log h) id version) result) }
     ensures found { IfOk result (λ found. IfSome found (IsFound sys.now id)) }
     ensures same { IsSameRecorder R.history R.snapshots R.capacity recorder.old recorder.new }
     ensures cause { FindHasCause (R.faults recorder.old) (R.faults recorder.new) result }
 {
-    let events = match recorder.select_events(id, None, None, false, None) {
+    let events = match recorder.select_events(id, None, version, false, None) {
         Ok(events) => events,
         Err(CallFault::Failed) => return Err(FindFault::Failed),
         Err(CallFault::NoMemory) => return Err(FindFault::NoMemory),
@@ -174,7 +175,7 @@ impl<'a, R: ApplicationRecorder> Aggregates for Reader<'a, R> {
     ghost faults = { λ r. R.faults r.recorder.now };
 
     fn find(&mut self, id: Uuid) -> Result<Option<Aggregate>, FindFault> {
-        let answer = read(self.alloc, self.sys, self.recorder, id);
+        let answer = read(self.alloc, self.sys, self.recorder, id, None);
         with_note(&mut self.asked, id, answer)
     }
 }

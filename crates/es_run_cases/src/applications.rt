@@ -123,6 +123,7 @@ fn asked(alloc: Global, sys: &System, name: &Text, line: &str) -> anyhow::Result
                 Err(anyhow::anyhow!("another application"))
             }
         }
+        Ok(_) => Err(anyhow::anyhow!("no command")),
         Err(fault) => Err(fault.into()),
     }
 }

@@ -72,6 +72,7 @@ pub(crate) fn of_command(
             let verdict = judge_command(alloc, &sys, &mut recorder, &command, moment(case));
             told(alloc, &verdict)
         }
+        Ok(_) => Err(anyhow::anyhow!("no command")),
         Err(fault) => Err(fault.into()),
     }
 }

@@ -1,5 +1,5 @@
 -- The numbers of recordings by name, the leaders, and the place of a name.
-use Rattle.std.proofs.Common.{◌≡◌, ◌-◌, ◌++◌, ℕ, zero, suc, Bool, IsTrue, true, false, ◌||◌, List, [], ◌∷◌, length, map, filter, Contains, drop, slice_get, if◌then◌else◌, Option, Some, None, refl, sym, ap, ◌∙◌, arith}
+use Rattle.std.proofs.Common.{◌≡◌, ◌-◌, ◌++◌, ℕ, zero, suc, Bool, IsTrue, true, false, ◌||◌, List, [], ◌∷◌, length, map, filter, Contains, drop, slice_get, if◌then◌else◌, Option, Some, None, is_some, refl, sym, ap, ◌∙◌, arith}
 use Rattle.std.specs.Str.{bytes_eq}
 use Rattle.std.proofs.lemmas.List.{map-append}
 use Rattle.es_model.specs.declared.declaration.App.{App}
@@ -9,7 +9,8 @@ use Rattle.es_model.specs.History.{Histories}
 use Rattle.es_model.specs.Rising.{is_before, with_item}
 use Rattle.es_model.specs.Values.{Name}
 use Rattle.es_decl.specs.Pairs.{pairs_of, leaders_in}
-use Rattle.es_lines.specs.Requests.{has_class}
+use Rattle.es_domain.specs.declared.command.Command.{Command}
+use Rattle.es_lines.specs.Requests.{has_class, IsApp, IsDeclared}
 use Rattle.es_process.specs.declared.draining.Pair.{Pair}
 use Rattle.es_process.specs.Drains.{IsOnlyPair, AreApps}
 use Rattle.es_process.specs.SingleThread.{added_counts, is_among, leaders_of}
@@ -67,23 +68,31 @@ pub only-apps : (sys : System) (names : List Name) (p : Option Pair) → IsOnlyP
 only-apps sys names None x = x.0
 only-apps sys names (Some p) x = x.apps
 
--- an application with a class is among those of the system
-listed-step : (b : Bool) (a : App) (apps : List App) (name class : Name) → IsTrue (has_class (if b then Some a else app_named apps name) class) → (IsTrue (has_class (app_named apps name) class) → is_among name (map (λ (x : App). x.name) apps) ≡ true)
+-- an application that is declared is among those of the system
+listed-step : (b : Bool) (a : App) (apps : List App) (name : Name) → IsTrue (is_some (if b then Some a else app_named apps name)) → (IsTrue (is_some (app_named apps name)) → is_among name (map (λ (x : App). x.name) apps) ≡ true)
     → (if b then true else is_among name (map (λ (x : App). x.name) apps)) ≡ true
-listed-step true a apps name class has rest = refl
-listed-step false a apps name class has rest = rest has
+listed-step true a apps name has rest = refl
+listed-step false a apps name has rest = rest has
 
 either-way : (b c : Bool) → (if b then true else c) ≡ true → (b || c) ≡ true
 either-way true c is = refl
 either-way false c is = is
 
-listed-name : (apps : List App) (name class : Name) → IsTrue (has_class (app_named apps name) class) → is_among name (map (λ (x : App). x.name) apps) ≡ true
-listed-name [] name class has = has
-listed-name (a ∷ apps) name class has =
-    either-way (bytes_eq a.name name) (is_among name (map (λ (x : App). x.name) apps)) (listed-step (bytes_eq a.name name) a apps name class has (listed-name apps name class))
+listed-name : (apps : List App) (name : Name) → IsTrue (is_some (app_named apps name)) → is_among name (map (λ (x : App). x.name) apps) ≡ true
+listed-name [] name has = has
+listed-name (a ∷ apps) name has =
+    either-way (bytes_eq a.name name) (is_among name (map (λ (x : App). x.name) apps)) (listed-step (bytes_eq a.name name) a apps name has (listed-name apps name))
 
-pub listed-among : (sys : System) (names : List Name) (p : Option Pair) (name class : Name) → IsOnlyPair sys names p → IsTrue (has_class (app_named sys.apps name) class) → is_among name names ≡ true
-listed-among sys names p name class only has = ap (is_among name) (only-apps sys names p only).named ∙ listed-name sys.apps name class has
+pub listed-among : (sys : System) (names : List Name) (p : Option Pair) (name : Name) → IsOnlyPair sys names p → IsApp sys name → is_among name names ≡ true
+listed-among sys names p name only has = ap (is_among name) (only-apps sys names p only).named ∙ listed-name sys.apps name has
+
+-- an application that has a class is declared
+has-app : (o : Option App) (class : Name) → IsTrue (has_class o class) → IsTrue (is_some o)
+has-app None class has = absurd (cc has)
+has-app (Some a) class has = refl
+
+pub declared-app : (sys : System) (name : Name) (c : Command) → IsDeclared sys name c → IsApp sys name
+declared-app sys name c declared = has-app (app_named sys.apps name) c.class declared.listed
 
 -- what is left of a list from a place on
 drop-at : {A : Type 0} (xs : List A) (i : ℕ) (x : A) → slice_get xs i ≡ Some x → drop i xs ≡ x ∷ drop (suc i) xs

@@ -1,5 +1,5 @@
 -- The loop over the lines of a run, and what it leaves where it stops.
-use Rattle.std.proofs.Common.{◌≡◌, inl, inr, ◌+◌, ◌++◌, ℕ, List, [], ◌∷◌, Option, Result, Ok, Err, refl, sym, ap, ◌∙◌, subst, append_assoc, length-append, arith}
+use Rattle.std.proofs.Common.{◌≡◌, inl, inr, ◌+◌, ◌++◌, ℕ, Bool, true, false, if◌then◌else◌, List, [], ◌∷◌, Option, Result, Ok, Err, refl, sym, ap, ◌∙◌, subst, append_assoc, length-append, arith}
 use Rattle.std.specs.Io.KnownBytes.{Appends}
 use Rattle.es_model.specs.History.{Histories}
 use Rattle.es_model.specs.Lines.{Line, over}
@@ -8,25 +8,48 @@ use Rattle.es_lines.specs.declared.ends.End.TheVariants as end
 use Rattle.es_process.specs.declared.faults.RunFault.{RunFault}
 use Rattle.es_process.specs.declared.faults.RunFault.TheVariants as fault
 use Rattle.es_process.specs.Drains.{Drains}
-use Rattle.es_process.specs.SingleThread.{Goes, leaders_of, written_by}
+use Rattle.es_process.specs.Decision.{Rules}
+use Rattle.es_process.specs.SingleThread.{Goes, leaders_of, stops_lines, up_to_stop, written_by}
 use Rattle.es_process.specs.Standing.{State, Setting, stand, standing, Came, Ended, CutShort, Faulted}
 use Rattle.es_process.specs.Terms.{Terms}
 use Rattle.es_process.proofs.SingleThreadLemmas.{Goes-then, Goes-end, written_by-append}
 use Rattle.es_process.proofs.StandingLemmas.{appends_nothing, appends_then, Cut-none, came_cut, came_faulted}
 use Rattle.es_single.specs.declared.serve.Stop.{Stop}
 use Rattle.es_single.specs.declared.serve.Stop.TheVariants as stop
-use Rattle.es_single.specs.inner.Serves.{at_line, AnswersLine, TakesTurn, NoneOver, whole, served, Answered, Begun, Serves}
+use Rattle.es_single.specs.inner.Serves.{at_line, AnswersLine, TellsStop, TakesTurn, NoneOver, NoneStops, whole, served, Answered, Begun, Serves}
+
+-- the lines up to the one that asks to stop, behind some of which none does
+going_if : {A : Type 0} (b : Bool) (x y : A) → b ≡ false → (if b then x else y) ≡ y
+going_if true x y is = absurd (cc is)
+going_if false x y is = refl
+
+stopping_if : {A : Type 0} (b : Bool) (x y : A) → b ≡ true → (if b then x else y) ≡ x
+stopping_if true x y is = refl
+stopping_if false x y is = absurd (cc is)
+
+pub stop-behind : (rules : Rules) (lines rest : List Line) → NoneStops rules lines → up_to_stop rules (lines ++ rest) ≡ lines ++ up_to_stop rules rest
+stop-behind rules [] rest going = refl
+stop-behind rules (line ∷ lines) rest going =
+    ap (λ (l : List Line). line ∷ l) (going_if (stops_lines rules line) [] (up_to_stop rules (lines ++ rest)) going.0 ∙ stop-behind rules lines rest going.1)
+
+stop-here : (rules : Rules) (line : Line) (rest : List Line) → stops_lines rules line ≡ true → up_to_stop rules (line ∷ rest) ≡ line ∷ []
+stop-here rules line rest is = ap (λ (l : List Line). line ∷ l) (stopping_if (stops_lines rules line) [] (up_to_stop rules rest) is)
+
+pub none_stops : (rules : Rules) (lines : List Line) (line : Line) → NoneStops rules lines → stops_lines rules line ≡ false → NoneStops rules (lines ++ line ∷ [])
+none_stops rules [] line none not = (not, tt)
+none_stops rules (l ∷ lines) line none not = (none.0, none_stops rules lines line none.1 not)
 
 module _ (t : Terms) where
   -- a line that was taken, and what answering it left
-  pub turned : (s : State) (H : State → Type 0) (ls rest : List Line) (line : Line) (L : Histories → Type 0) (u w : Option (List ℕ)) (result : Result (Unit {0}) Stop) → (line ≡ over → ⊥) → ls ≡ line ∷ rest → AnswersLine t s H line L u w result
+  pub turned : (s : State) (H : State → Type 0) (ls rest : List Line) (line : Line) (L : Histories → Type 0) (u w : Option (List ℕ)) (result : Result (Unit {0}) Stop) → (line ≡ over → ⊥) → ls ≡ line ∷ rest → TellsStop t.rules line result → AnswersLine t s H line L u w result
       → TakesTurn t s H ls rest L u w result
-  turned s H ls rest line L u w (Ok x) not parts so = (line, parts, not, so)
-  turned s H ls rest line L u w (Err (stop.Fault f)) not parts so = inr (record { line = line; rest = rest; parts = parts; of_it = so })
-  turned s H ls rest line L u w (Err stop.Sink) not parts so = record { line = line; rest = rest; parts = parts; of_it = so }
-  turned s H ls rest line L u w (Err stop.End) not parts so = absurd so
-  turned s H ls rest line L u w (Err stop.Over) not parts so = absurd so
-  turned s H ls rest line L u w (Err stop.Read) not parts so = absurd so
+  turned s H ls rest line L u w (Ok x) not parts tells so = (line, parts, not, tells, so)
+  turned s H ls rest line L u w (Err stop.Asked) not parts tells so = (line, parts, not, tells, so)
+  turned s H ls rest line L u w (Err (stop.Fault f)) not parts tells so = inr (record { line = line; rest = rest; parts = parts; of_it = so })
+  turned s H ls rest line L u w (Err stop.Sink) not parts tells so = record { line = line; rest = rest; parts = parts; of_it = so }
+  turned s H ls rest line L u w (Err stop.End) not parts tells so = absurd so
+  turned s H ls rest line L u w (Err stop.Over) not parts tells so = absurd so
+  turned s H ls rest line L u w (Err stop.Read) not parts tells so = absurd so
 
 pub none_over : (lines : List Line) (line : Line) → NoneOver lines → (line ≡ over → ⊥) → NoneOver (lines ++ line ∷ [])
 none_over [] line none not = (not, tt)
@@ -37,7 +60,7 @@ module _ (t : Terms) (s : State) where
   begun H L u y x = record { steps = x.steps; goes = λ more openings. x.goes (record { openings = openings; lines = more; answered = 0 }); written = x.written }
 
   abbrev pub none_answered : (n : State) (H : State → Type 0) (ls : List Line) (u v : Option (List ℕ)) → Begun t s n u v → H n → Answered t s H ls ls 0 u v
-  none_answered n H ls u v x held = record { taken = []; parts = refl; counted = refl; within = tt; state = n; steps = x.steps; held = held; goes = λ more openings. x.goes more openings; written = x.written }
+  none_answered n H ls u v x held = record { taken = []; parts = refl; counted = refl; within = tt; going = tt; state = n; steps = x.steps; held = held; goes = λ more openings. x.goes more openings; written = x.written }
 
   module _ (H : State → Type 0) (ls rest : List Line) (count : ℕ) (u v : Option (List ℕ)) (x : Answered t s H ls rest count u v) where
     abbrev pub one_answered : (K : State → Type 0) (w : Option (List ℕ)) (L : Histories → Type 0) (coming : List Line) (y : TakesTurn t x.state K rest coming L v w (Ok tt)) → Answered t s K ls coming (count + 1) u w
@@ -46,23 +69,41 @@ module _ (t : Terms) (s : State) where
       parts = x.parts ∙ ap (λ (l : List Line). x.taken ++ l) y.1 ∙ sym (append_assoc x.taken (y.0 ∷ []) coming);
       counted = omega (arith, x.counted, length-append x.taken (y.0 ∷ []));
       within = none_over x.taken y.0 x.within y.2;
-      state = y.3.state;
-      steps = x.steps ++ y.3.steps;
-      held = y.3.held;
+      going = none_stops t.rules x.taken y.0 x.going y.3;
+      state = y.4.state;
+      steps = x.steps ++ y.4.steps;
+      held = y.4.held;
       goes = λ more openings.
-          subst (λ l. Goes t.rules t.options openings (stand s (leaders_of t.rules.pairs) [] l 0) (stand y.3.state [] [] more (count + 1)) (x.steps ++ y.3.steps)) (sym (append_assoc x.taken (y.0 ∷ []) more))
-          (Goes-then t.rules t.options openings (stand s (leaders_of t.rules.pairs) [] (x.taken ++ y.0 ∷ more) 0) (stand x.state [] [] (y.0 ∷ more) count) (stand y.3.state [] [] more (count + 1)) x.steps y.3.steps (x.goes (y.0 ∷ more) openings)
-          (y.3.goes (record { openings = openings; lines = more; answered = count })));
-      written = subst (Appends u w) (sym (written_by-append x.steps y.3.steps)) (appends_then u v w (written_by x.steps) (written_by y.3.steps) x.written y.3.written);
+          subst (λ l. Goes t.rules t.options openings (stand s (leaders_of t.rules.pairs) [] l 0) (stand y.4.state [] [] more (count + 1)) (x.steps ++ y.4.steps)) (sym (append_assoc x.taken (y.0 ∷ []) more))
+          (Goes-then t.rules t.options openings (stand s (leaders_of t.rules.pairs) [] (x.taken ++ y.0 ∷ more) 0) (stand x.state [] [] (y.0 ∷ more) count) (stand y.4.state [] [] more (count + 1)) x.steps y.4.steps (x.goes (y.0 ∷ more) openings)
+          (y.4.goes (record { openings = openings; lines = more; answered = count })));
+      written = subst (Appends u w) (sym (written_by-append x.steps y.4.steps)) (appends_then u v w (written_by x.steps) (written_by y.4.steps) x.written y.4.written);
+    }
+
+    -- the lines to be answered are those that were, and what is left of the others
+    pub left_lines : (others : List Line) → rest ≡ others → up_to_stop t.rules ls ≡ x.taken ++ up_to_stop t.rules others
+    left_lines others is = ap (up_to_stop t.rules) (x.parts ∙ ap (λ (l : List Line). x.taken ++ l) is) ∙ stop-behind t.rules x.taken others x.going
+
+    -- a line asked to stop, and was answered
+    asked_stop : (K : State → Type 0) (w : Option (List ℕ)) (L : Histories → Type 0) (coming : List Line) → TakesTurn t x.state K rest coming L v w (Err stop.Asked) → Came t (whole t s ls) K u w (λ n. served [] (count + 1) n)
+    asked_stop K w L coming y = record {
+      state = y.4.state;
+      steps = x.steps ++ y.4.steps;
+      held = y.4.held;
+      goes = λ σ.
+          subst (λ l. Goes t.rules t.options σ.openings (stand s (leaders_of t.rules.pairs) [] l 0) (stand y.4.state [] [] [] (count + 1)) (x.steps ++ y.4.steps)) (sym (left_lines (y.0 ∷ coming) y.1 ∙ ap (λ (l : List Line). x.taken ++ l) (stop-here t.rules y.0 coming y.3)))
+          (Goes-then t.rules t.options σ.openings (stand s (leaders_of t.rules.pairs) [] (x.taken ++ y.0 ∷ []) 0) (stand x.state [] [] (y.0 ∷ []) count) (stand y.4.state [] [] [] (count + 1)) x.steps y.4.steps (x.goes (y.0 ∷ []) σ.openings)
+          (y.4.goes (record { openings = σ.openings; lines = []; answered = count })));
+      written = subst (Appends u w) (sym (written_by-append x.steps y.4.steps)) (appends_then u v w (written_by x.steps) (written_by y.4.steps) x.written y.4.written);
     }
 
     -- the run so far, over all lines
-    abbrev pub came_far : (others : List Line) → rest ≡ others → Came t (whole t s ls) (λ n. Unit {0}) u v (λ n. served others count n)
+    abbrev pub came_far : (others : List Line) → rest ≡ others → Came t (whole t s ls) (λ n. Unit {0}) u v (λ n. served (up_to_stop t.rules others) count n)
     came_far others is = record {
       state = x.state;
       steps = x.steps;
       held = tt;
-      goes = λ σ. subst (λ l. Goes t.rules t.options σ.openings (stand s (leaders_of t.rules.pairs) [] l 0) (stand x.state [] [] others count) x.steps) (sym (x.parts ∙ ap (λ (l : List Line). x.taken ++ l) is)) (x.goes others σ.openings);
+      goes = λ σ. subst (λ l. Goes t.rules t.options σ.openings (stand s (leaders_of t.rules.pairs) [] l 0) (stand x.state [] [] (up_to_stop t.rules others) count) x.steps) (sym (left_lines others is)) (x.goes (up_to_stop t.rules others) σ.openings);
       written = x.written;
     }
 
@@ -89,6 +130,7 @@ module _ (t : Terms) (s : State) where
       parts = x.parts;
       counted = x.counted;
       within = x.within;
+      going = x.going;
       state = x.state;
       steps = x.steps;
       held = held;
@@ -97,15 +139,19 @@ module _ (t : Terms) (s : State) where
     }
 
     -- nothing more was done
-    idle_cut : (L : Histories → Type 0) (w : Option (List ℕ)) → L x.state.histories → w ≡ v → CutShort t (served rest count x.state) L v w []
+    idle_cut : (L : Histories → Type 0) (w : Option (List ℕ)) → L x.state.histories → w ≡ v → CutShort t (served (up_to_stop t.rules rest) count x.state) L v w []
     idle_cut L w held still = record {
       done = [];
       histories = x.state.histories;
       held = held;
-      cut = λ σ. Cut-none t σ.openings (served rest count x.state σ);
+      cut = λ σ. Cut-none t σ.openings (served (up_to_stop t.rules rest) count x.state σ);
       made = λ σ. refl;
       written = subst (λ y. Appends v y []) (sym still) (appends_nothing v);
     }
+
+    -- what is answered behind a line
+    abbrev behind : Line → List Line → List Line
+    behind line others = if stops_lines t.rules line then [] else up_to_stop t.rules others
 
     -- the same line in the one setting in which it stands
     abbrev here : List Line → Setting → Setting
@@ -142,17 +188,18 @@ module _ (t : Terms) (s : State) where
     fault_stops : (K : State → Type 0) (coming : List Line) (f : RunFault) (L : Histories → Type 0) (w : Option (List ℕ)) → ((n : State) → K n → L n.histories) → TakesTurn t x.state K rest coming L v w (Err (stop.Fault f)) → Faulted t (whole t s ls) f L u w
     fault_stops K coming f L w told (inl idle) =
         subst (λ g. Faulted t (whole t s ls) g L u w) (sym idle.0)
-        (came_cut t (whole t s ls) (λ n. Unit {0}) u v (λ n. served rest count n) (came_far rest refl) L w [] (idle_cut L w (told x.state idle.1.held) idle.1.unwritten))
+        (came_cut t (whole t s ls) (λ n. Unit {0}) u v (λ n. served (up_to_stop t.rules rest) count n) (came_far rest refl) L w [] (idle_cut L w (told x.state idle.1.held) idle.1.unwritten))
     fault_stops K coming f L w told (inr first) =
-        came_faulted t (whole t s ls) (λ n. Unit {0}) u v (λ n. served (first.line ∷ first.rest) count n) (came_far (first.line ∷ first.rest) first.parts) f L w (faulted_there f L w first.line first.rest first.of_it)
+        came_faulted t (whole t s ls) (λ n. Unit {0}) u v (λ n. served (up_to_stop t.rules (first.line ∷ first.rest)) count n) (came_far (first.line ∷ first.rest) first.parts) f L w (faulted_there f L w first.line (behind first.line first.rest) first.of_it)
 
     pub stopped : (K : State → Type 0) (coming : List Line) (why : Stop) (L : Histories → Type 0) (w : Option (List ℕ)) → ((n : State) → K n → L n.histories) → TakesTurn t x.state K rest coming L v w (Err why) → Serves t s K ls why count L u w
     stopped K coming stop.End L w told so = all_answered K w so.0 so.1.held so.1.unwritten
+    stopped K coming stop.Asked L w told so = asked_stop K w L coming so
     stopped K coming stop.Over L w told so = is_over L w so.0 (told x.state so.1.held) so.1.unwritten
     stopped K coming (stop.Fault f) L w told so = fault_stops K coming f L w told so
     stopped K coming stop.Read L w told so = (rest, was_reading K w so.held so.unwritten)
     stopped K coming stop.Sink L w told so =
-        (so.of_it.0, came_cut t (whole t s ls) (λ n. Unit {0}) u v (λ n. served (so.line ∷ so.rest) count n) (came_far (so.line ∷ so.rest) so.parts) L w so.of_it.0 (cut_there L w so.line so.rest so.of_it.0 so.of_it.1))
+        (so.of_it.0, came_cut t (whole t s ls) (λ n. Unit {0}) u v (λ n. served (up_to_stop t.rules (so.line ∷ so.rest)) count n) (came_far (so.line ∷ so.rest) so.parts) L w so.of_it.0 (cut_there L w so.line (behind so.line so.rest) so.of_it.0 so.of_it.1))
 
 -- the opening drain failed
 abbrev at_first : List Line → Setting → Setting
@@ -162,10 +209,10 @@ pub drain_stopped : (t : Terms) (s : State) (ls : List Line) (f : RunFault) (L :
 drain_stopped t s ls f L u so = by_fault f so
   where
     cut : CutShort t (standing s (leaders_of t.rules.pairs) []) L u u [] → CutShort t (whole t s ls) L u u []
-    cut y = record { done = y.done; histories = y.histories; held = y.held; cut = λ σ. y.cut (at_first ls σ); made = λ σ. y.made (at_first ls σ); written = y.written }
+    cut y = record { done = y.done; histories = y.histories; held = y.held; cut = λ σ. y.cut (at_first (up_to_stop t.rules ls) σ); made = λ σ. y.made (at_first (up_to_stop t.rules ls) σ); written = y.written }
 
     ended : (e : End) → Ended t (standing s (leaders_of t.rules.pairs) []) L u u e → Ended t (whole t s ls) L u u e
-    ended e y = record { steps = y.steps; histories = y.histories; held = y.held; run = λ σ. y.run (at_first ls σ); made = λ σ. y.made (at_first ls σ); written = y.written }
+    ended e y = record { steps = y.steps; histories = y.histories; held = y.held; run = λ σ. y.run (at_first (up_to_stop t.rules ls) σ); made = λ σ. y.made (at_first (up_to_stop t.rules ls) σ); written = y.written }
 
     by_fault : (g : RunFault) → Faulted t (standing s (leaders_of t.rules.pairs) []) g L u u → Faulted t (whole t s ls) g L u u
     by_fault (fault.Refused app leader id recordings code rule) y = ended (end.Refused app leader id recordings code rule) y

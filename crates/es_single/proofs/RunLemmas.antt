@@ -13,7 +13,7 @@ use Rattle.es_lines.specs.declared.ends.End.TheVariants as end
 use Rattle.es_process.specs.declared.faults.RunFault.{RunFault}
 use Rattle.es_process.specs.declared.faults.RunFault.TheVariants as fault
 use Rattle.es_process.specs.Faults.{end_of}
-use Rattle.es_process.specs.SingleThread.{added_counts, leaders_of, Run, IsRun, Goes, written_by}
+use Rattle.es_process.specs.SingleThread.{added_counts, leaders_of, up_to_stop, Run, IsRun, Goes, written_by}
 use Rattle.es_process.specs.Standing.{State, Setting, stand, Came, Ended, CutShort, CutInText, Faulted}
 use Rattle.es_process.specs.SystemRules.{app_names, in_order, names_of}
 use Rattle.es_process.specs.Terms.{Terms}
@@ -21,11 +21,12 @@ use Rattle.es_process.proofs.DrainLemmas.{run-exists}
 use Rattle.es_process.proofs.SingleThreadLemmas.{Goes-end, Goes-after}
 use Rattle.es_process.proofs.StandingLemmas.{appends_nothing, front_none}
 use Rattle.es_single.specs.inner.Counts.{CountsTold}
-use Rattle.es_single.specs.Limits.{terms_of, all_lines}
+use Rattle.es_single.specs.Limits.{terms_of, all_lines, lines_for}
 use Rattle.es_single.specs.Runs.{state_of, AreEmpty, PartRun, WholeRun, Runs}
 use Rattle.es_single.specs.inner.Serves.{whole, served, Answered}
 use Rattle.es_single.specs.inner.Taken.{Taken}
 use Rattle.es_single.proofs.CountLemmas.{counts-empty}
+use Rattle.es_single.proofs.LoopLemmas.{stop-behind}
 use Rattle.es_single.proofs.TakenLemmas.{taken_lines}
 
 module _ (t : Terms) (openings : Histories) (r : Readings) (i : List ℕ) (L : Histories → Type 0) (u : Option (List ℕ)) where
@@ -45,7 +46,7 @@ module _ (t : Terms) (openings : Histories) (r : Readings) (i : List ℕ) (L : H
 
   pub part_of : (w : Option (List ℕ)) (front : List ℕ) → CutShort t (whole t first (all_lines i)) L u w front → PartRun t openings r i L u w front
   part_of w front x =
-      let one = run-exists t.rules t.options openings r (all_lines i) in
+      let one = run-exists t.rules t.options openings r (lines_for t.rules i) in
       let begins = (x.cut plain).of_run one.run one.is in
       record {
         run = one.run;
@@ -61,7 +62,7 @@ module _ (t : Terms) (openings : Histories) (r : Readings) (i : List ℕ) (L : H
   -- nothing was done
   pub part_none : (w : Option (List ℕ)) → L openings → w ≡ u → PartRun t openings r i L u w []
   part_none w held still =
-      let one = run-exists t.rules t.options openings r (all_lines i) in
+      let one = run-exists t.rules t.options openings r (lines_for t.rules i) in
       record {
         run = one.run;
         done = [];
@@ -76,10 +77,11 @@ module _ (t : Terms) (openings : Histories) (r : Readings) (i : List ℕ) (L : H
   -- some lines were answered
   abbrev pub part_answered : (H : State → Type 0) (rest : List Line) (count : ℕ) (w : Option (List ℕ)) → ((n : State) → H n → L n.histories) → Answered t first H (all_lines i) rest count u w → PartRun t openings r i L u w []
   part_answered H rest count w told x =
-      let one = run-exists t.rules t.options openings r (all_lines i) in
-      let far : Goes t.rules t.options openings (whole t first (all_lines i) plain) (stand x.state [] [] rest count) x.steps
-      = subst (λ l. Goes t.rules t.options openings (stand first (leaders_of t.rules.pairs) [] l 0) (stand x.state [] [] rest count) x.steps) (sym x.parts) (x.goes rest openings) in
-      let later = Goes-after t.rules t.options openings (whole t first (all_lines i) plain) (stand x.state [] [] rest count) x.steps one.run far one.is in
+      let one = run-exists t.rules t.options openings r (lines_for t.rules i) in
+      let coming : List Line = up_to_stop t.rules rest in
+      let far : Goes t.rules t.options openings (whole t first (all_lines i) plain) (stand x.state [] [] coming count) x.steps
+      = subst (λ l. Goes t.rules t.options openings (stand first (leaders_of t.rules.pairs) [] l 0) (stand x.state [] [] coming count) x.steps) (sym (ap (up_to_stop t.rules) x.parts ∙ stop-behind t.rules x.taken rest x.going)) (x.goes coming openings) in
+      let later = Goes-after t.rules t.options openings (whole t first (all_lines i) plain) (stand x.state [] [] coming count) x.steps one.run far one.is in
       record {
         run = one.run;
         done = x.steps;
@@ -145,7 +147,7 @@ module _ (t : Terms) (openings : Histories) (r : Readings) (i : List ℕ) (L : H
         ends = y.ends;
         run = record { steps = x.steps; end = end.Ok (added_counts t.rules.names openings x.state.histories) count };
         is = subst (λ l. IsRun t.rules t.options openings (stand first (leaders_of t.rules.pairs) [] l 0) (record { steps = x.steps; end = end.Ok (added_counts t.rules.names openings x.state.histories) count }))
-            (append-nil x.taken ∙ taken_lines MOST_LINE_BYTES MOST_INPUT_BYTES (pieces_of y.answered) (pieces_of (y.begun ++ left)) x.taken lines (sym x.parts ∙ ap (lines_of_pieces MOST_LINE_BYTES MOST_INPUT_BYTES) y.pieces) (sym x.counted ∙ sym y.number) x.within)
+            (sym (stop-behind t.rules x.taken [] x.going) ∙ ap (up_to_stop t.rules) (append-nil x.taken ∙ taken_lines MOST_LINE_BYTES MOST_INPUT_BYTES (pieces_of y.answered) (pieces_of (y.begun ++ left)) x.taken lines (sym x.parts ∙ ap (lines_of_pieces MOST_LINE_BYTES MOST_INPUT_BYTES) y.pieces) (sym x.counted ∙ sym y.number) x.within))
             (Goes-end t.rules t.options openings (stand first (leaders_of t.rules.pairs) [] (x.taken ++ []) 0) (stand x.state [] [] [] count) x.steps (end.Ok (added_counts t.rules.names openings x.state.histories) count) (x.goes [] openings) refl);
         steps = refl;
         ended = (added_counts t.rules.names openings x.state.histories, count, refl);

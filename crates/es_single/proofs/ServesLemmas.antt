@@ -1,5 +1,5 @@
 -- Lines of a run, one after another.
-use Rattle.std.proofs.Common.{◌≡◌, inl, inr, ◌+◌, ◌++◌, ℕ, ℤ, Bool, true, false, List, [], ◌∷◌, length, if◌then◌else◌, Option, Some, None, Result, Ok, Err, refl, sym, ap, ◌∙◌, subst, append-nil}
+use Rattle.std.proofs.Common.{◌≡◌, inl, inr, ◌+◌, ◌++◌, ℕ, ℤ, Bool, true, false, List, [], ◌∷◌, length, if◌then◌else◌, Option, Some, None, Result, Ok, Err, IfErr, refl, sym, ap, ◌∙◌, subst, append-nil}
 use Rattle.std.specs.Io.KnownBytes.{Appends}
 use Rattle.es_model.specs.declared.declaration.System.{System}
 use Rattle.es_model.specs.declared.event.Recording.{Recording}
@@ -14,7 +14,9 @@ use Rattle.es_recorder.specs.Held.{put}
 use Rattle.es_recorder.specs.declared.recorder.InsertFault.{InsertFault}
 use Rattle.es_recorder.specs.Insert.{too_many}
 use Rattle.es_lines.specs.CommandText.{command_text}
-use Rattle.es_lines.specs.Requests.{asks, refused as not_asked, request_in, Answers as Answered}
+use Rattle.es_lines.specs.Requests.{Asked, asks, refused as not_asked, request_in, Answers as Answered}
+use Rattle.es_lines.specs.declared.request.Request.{Request as RequestOf}
+use Rattle.es_lines.specs.declared.request.Request.TheVariants.{Do, Get, Log, Tracking, Sync, Stop as StopOf}
 use Rattle.es_lines.specs.Texts.{reply_text}
 use Rattle.es_lines.specs.declared.ends.End.{End}
 use Rattle.es_lines.specs.declared.ends.End.TheVariants.{Refused, Turns, Unreadable, Full}
@@ -26,10 +28,11 @@ use Rattle.es_lines.proofs.CanonicalLemmas.{canonical}
 use Rattle.es_process.specs.declared.faults.RunFault.{RunFault}
 use Rattle.es_process.specs.declared.faults.RunFault.TheVariants as fault
 use Rattle.es_process.specs.Answer.{Options, Answer, says, accepts, ends, differs, answer_of, accept_unless, recording_of}
-use Rattle.es_process.specs.Decision.{Decision, events, refused, unreadable, logs_of}
+use Rattle.es_process.specs.Decision.{Rules, Decision, events, refused, unreadable, logs_of}
 use Rattle.es_process.specs.Drains.{Drains}
 use Rattle.es_process.specs.Leaves.{command_answer, readings_after, Gives, MayAdd, Leaves}
-use Rattle.es_process.specs.SingleThread.{Outcome, goes_on, turn_at, request_turn, command_turn, only_says, Step, records, writes, steps_of, left_by, written_by, as_line}
+use Rattle.es_process.specs.Requests.{question}
+use Rattle.es_process.specs.SingleThread.{Place, Outcome, goes_on, turn_at, request_turn, command_turn, past_line, only_says, is_stop, stops_lines, Step, records, writes, steps_of, left_by, written_by, as_line}
 use Rattle.es_process.specs.Standing.{State, Setting, standing, Came, Ended, CutShort, Faulted}
 use Rattle.es_process.specs.SystemRules.{rules_of, request_of, reply_to, decision_of, decide_asked}
 use Rattle.es_process.specs.Terms.{Terms, terms}
@@ -38,7 +41,7 @@ use Rattle.es_process.proofs.SingleThreadLemmas.{Goes-none, Goes-one, run-finish
 use Rattle.es_process.proofs.StandingLemmas.{appends_nothing, Cut-none, Cut-turn, came_then, came_faulted}
 use Rattle.es_single.specs.declared.serve.Stop.{Stop}
 use Rattle.es_single.specs.declared.serve.Stop.TheVariants as stop
-use Rattle.es_single.specs.inner.Serves.{SaysIt, at_line, past_it, after_reply, prompted_by, DrainsAfter, RepliesAndDrains, AnswersLine}
+use Rattle.es_single.specs.inner.Serves.{SaysIt, SaysStop, SaysWord, IsSaying, IsAnswering, app_asked, TellsStop, at_line, past_it, after_reply, prompted_by, DrainsAfter, RepliesAndDrains, AnswersLine}
 
 -- a choice whose test is known
 chosen : {A : Type 0} (b : Bool) (x y : A) → b ≡ true → (if b then x else y) ≡ x
@@ -114,6 +117,7 @@ module _ (t : Terms) where
   replied s H L prompted told u v (Err (stop.Fault f)) said so = inr (record { middle = v; written = said; later = so })
   replied s H L prompted told u v (Err stop.Sink) said so = absurd so
   replied s H L prompted told u v (Err stop.End) said so = absurd so
+  replied s H L prompted told u v (Err stop.Asked) said so = absurd so
   replied s H L prompted told u v (Err stop.Over) said so = absurd so
   replied s H L prompted told u v (Err stop.Read) said so = absurd so
 
@@ -128,6 +132,7 @@ module _ (t : Terms) where
   unreplied s H L prompted told u v (stop.Fault (fault.Unreadable app id)) said held = absurd said
   unreplied s H L prompted told u v (stop.Fault (fault.Full app last capacity)) said held = absurd said
   unreplied s H L prompted told u v stop.End said held = absurd said
+  unreplied s H L prompted told u v stop.Asked said held = absurd said
   unreplied s H L prompted told u v stop.Over said held = absurd said
   unreplied s H L prompted told u v stop.Read said held = absurd said
 
@@ -165,6 +170,7 @@ module _ (t : Terms) (s next : State) (H : State → Type 0) (L : Histories → 
   line_replied (Err (stop.Fault f)) (inr so) = came_faulted t (at_line s line) (λ x. Unit {0}) u so.middle (λ x. after_reply next prompted) (at_reply so.middle so.written) f L w so.later
   line_replied (Err stop.Sink) so = (so.0.front, cut_at_reply so.0.front so.0.rest so.0.parts so.0.written so.1)
   line_replied (Err stop.End) so = absurd so
+  line_replied (Err stop.Asked) so = absurd so
   line_replied (Err stop.Over) so = absurd so
   line_replied (Err stop.Read) so = absurd so
 
@@ -199,23 +205,121 @@ module _ (t : Terms) where
     written = subst (λ x. Appends u x []) (sym still) (appends_nothing u);
   }
 
--- a refusal of a line prompts nobody
-quiet_refusal : (f : LineFault) → prompted_by (reply_to f) [] ≡ []
-quiet_refusal line_fault.Syntax = refl
-quiet_refusal line_fault.Unknown = refl
-quiet_refusal line_fault.Kind = refl
-quiet_refusal line_fault.NoMemory = refl
+-- a reply prompts nobody of nobody
+pub quiet : (told : Reply) → prompted_by told [] ≡ []
+quiet (reply.Accepted recording first last version) = refl
+quiet (reply.Refused code) = refl
+quiet reply.Syntax = refl
+quiet reply.Unknown = refl
+quiet reply.Kind = refl
+quiet reply.Long = refl
+quiet (reply.Conflict latest) = refl
+quiet (reply.Unreadable app id) = refl
+quiet (reply.Got id version class created_on modified_on fields) = refl
+quiet (reply.Log id items next) = refl
+quiet (reply.Tracking position) = refl
+quiet reply.Sync = refl
+quiet reply.Stop = refl
+quiet reply.NotFound = refl
+quiet reply.Section = refl
 
 -- a command of a line
 module _ (sys : System) (o : Options) where
   nothing_asked : (s : State) (line : List ℕ) (f : LineFault) → request_in sys line ≡ not_asked f → (σ : Setting)
       → turn_at (rules_of sys) o σ.openings (at_line s (text line) σ) ≡ goes_on (only_says (reply_to f)) (after_reply s [] σ)
-  nothing_asked s line f is σ = ap (λ a. request_turn (rules_of sys) o (at_line s (text line) σ) σ.lines (request_of a)) is
+  nothing_asked s line f is σ = ap (λ a. request_turn (rules_of sys) o (at_line s (text line) σ) σ.lines (request_of sys a)) is
 
   -- a line that asks nothing
   pub refused_only : (s : State) (H : State → Type 0) (L : Histories → Type 0) (line : List ℕ) (f : LineFault) (u w : Option (List ℕ)) (result : Result (Unit {0}) Stop)
       → request_in sys line ≡ not_asked f → SaysIt (reply_to f) u w result → H s → L s.histories → AnswersLine (terms (rules_of sys) o) s H (text line) L u w result
-  refused_only s H L line f u w result is said held left = said_only (terms (rules_of sys) o) s H L (text line) (reply_to f) u w result (quiet_refusal f) (nothing_asked s line f is) said held left
+  refused_only s H L line f u w result is said held left = said_only (terms (rules_of sys) o) s H L (text line) (reply_to f) u w result (quiet (reply_to f)) (nothing_asked s line f is) said held left
+
+  -- a line of one word
+  word_asked : (s : State) (line : List ℕ) (told : Reply) (r : RequestOf) → request_in sys line ≡ asks r → ((at : Place) (lines : List Line) → request_turn (rules_of sys) o at lines (request_of sys (asks r)) ≡ goes_on (only_says told) (past_line at lines)) → (σ : Setting)
+      → turn_at (rules_of sys) o σ.openings (at_line s (text line) σ) ≡ goes_on (only_says told) (after_reply s [] σ)
+  word_asked s line told r is turn σ = ap (λ a. request_turn (rules_of sys) o (at_line s (text line) σ) σ.lines (request_of sys a)) is ∙ turn (at_line s (text line) σ) σ.lines
+
+  pub synced : (s : State) (H : State → Type 0) (L : Histories → Type 0) (line : List ℕ) (u w : Option (List ℕ)) (result : Result (Unit {0}) Stop)
+      → request_in sys line ≡ asks Sync → SaysIt reply.Sync u w result → H s → L s.histories → AnswersLine (terms (rules_of sys) o) s H (text line) L u w result
+  synced s H L line u w result is said held left = said_only (terms (rules_of sys) o) s H L (text line) reply.Sync u w result refl (word_asked s line reply.Sync Sync is (λ at lines. refl)) said held left
+
+  stopped : (s : State) (H : State → Type 0) (L : Histories → Type 0) (line : List ℕ) (u w : Option (List ℕ)) (result : Result (Unit {0}) Stop)
+      → request_in sys line ≡ asks StopOf → SaysStop u w result → H s → L s.histories → AnswersLine (terms (rules_of sys) o) s H (text line) L u w result
+  stopped s H L line u w result is said held left = by result said
+    where
+      said_so : (r : Result (Unit {0}) Stop) → SaysIt reply.Stop u w r → AnswersLine (terms (rules_of sys) o) s H (text line) L u w r
+      said_so r x = said_only (terms (rules_of sys) o) s H L (text line) reply.Stop u w r refl (word_asked s line reply.Stop StopOf is (λ at lines. refl)) x held left
+
+      by : (r : Result (Unit {0}) Stop) → SaysStop u w r → AnswersLine (terms (rules_of sys) o) s H (text line) L u w r
+      by (Ok y) x = absurd x
+      by (Err stop.Asked) x = said_so (Ok tt) x
+      by (Err stop.Sink) x = said_so (Err stop.Sink) x
+      by (Err (stop.Fault f)) x = said_so (Err (stop.Fault f)) x
+      by (Err stop.End) x = absurd x
+      by (Err stop.Over) x = absurd x
+      by (Err stop.Read) x = absurd x
+
+  -- a line of one word was answered
+  pub word_answered : (r : RequestOf) (s : State) (H : State → Type 0) (L : Histories → Type 0) (line : List ℕ) (u w : Option (List ℕ)) (result : Result (Unit {0}) Stop)
+      → request_in sys line ≡ asks r → SaysWord r u w result → H s → L s.histories → AnswersLine (terms (rules_of sys) o) s H (text line) L u w result
+  word_answered Sync s H L line u w result is said held left = synced s H L line u w result is said.0 held left
+  word_answered StopOf s H L line u w result is said held left = stopped s H L line u w result is said held left
+  word_answered (Do app c) s H L line u w result is said held left = absurd said
+  word_answered (Get app id version) s H L line u w result is said held left = absurd said
+  word_answered (Log app section) s H L line u w result is said held left = absurd said
+  word_answered (Tracking app leader) s H L line u w result is said held left = absurd said
+
+-- whether what a line asks is that no further line is answered
+pub stops-as : (sys : System) (line : List ℕ) (a : Asked) → request_in sys line ≡ a → stops_lines (rules_of sys) (text line) ≡ is_stop (request_of sys a)
+stops-as sys line a is = ap (λ x. is_stop (request_of sys x)) is
+
+pub saying_answers : (result : Result (Unit {0}) Stop) → IfErr result IsSaying → IfErr result IsAnswering
+saying_answers (Ok x) so = tt
+saying_answers (Err f) (inl is) = subst IsAnswering (sym is) tt
+saying_answers (Err f) (inr is) = subst IsAnswering (sym is) tt
+
+-- what comes of a line that doesn't ask to stop tells it
+pub tells_going : (rules : Rules) (line : Line) (result : Result (Unit {0}) Stop) → stops_lines rules line ≡ false → IfErr result IsAnswering → TellsStop rules line result
+tells_going rules line (Ok x) is so = is
+tells_going rules line (Err stop.Asked) is so = absurd so
+tells_going rules line (Err (stop.Fault f)) is so = tt
+tells_going rules line (Err stop.Sink) is so = tt
+tells_going rules line (Err stop.End) is so = tt
+tells_going rules line (Err stop.Over) is so = tt
+tells_going rules line (Err stop.Read) is so = tt
+
+tells_stopping : (rules : Rules) (line : Line) (u w : Option (List ℕ)) (result : Result (Unit {0}) Stop) → stops_lines rules line ≡ true → SaysStop u w result → TellsStop rules line result
+tells_stopping rules line u w (Ok x) is so = absurd so
+tells_stopping rules line u w (Err stop.Asked) is so = is
+tells_stopping rules line u w (Err (stop.Fault f)) is so = tt
+tells_stopping rules line u w (Err stop.Sink) is so = tt
+tells_stopping rules line u w (Err stop.End) is so = tt
+tells_stopping rules line u w (Err stop.Over) is so = tt
+tells_stopping rules line u w (Err stop.Read) is so = tt
+
+pub word_tells : (sys : System) (r : RequestOf) (line : List ℕ) (u w : Option (List ℕ)) (result : Result (Unit {0}) Stop) → request_in sys line ≡ asks r → SaysWord r u w result → TellsStop (rules_of sys) (text line) result
+word_tells sys Sync line u w result is said = tells_going (rules_of sys) (text line) result (stops-as sys line (asks Sync) is) (saying_answers result said.1)
+word_tells sys StopOf line u w result is said = tells_stopping (rules_of sys) (text line) u w result (stops-as sys line (asks StopOf) is) said
+word_tells sys (Do app c) line u w result is said = absurd said
+word_tells sys (Get app id version) line u w result is said = absurd said
+word_tells sys (Log app section) line u w result is said = absurd said
+word_tells sys (Tracking app leader) line u w result is said = absurd said
+
+-- a line that asks something of an application
+pub app_tells : (sys : System) (r : RequestOf) (line : List ℕ) (app : Name) (result : Result (Unit {0}) Stop) → request_in sys line ≡ asks r → app_asked r ≡ Some app → IfErr result IsAnswering → TellsStop (rules_of sys) (text line) result
+app_tells sys (Do other c) line app result is about so = tells_going (rules_of sys) (text line) result (stops-as sys line (asks (Do other c)) is) so
+app_tells sys (Get other id version) line app result is about so = tells_going (rules_of sys) (text line) result (stops-as sys line (asks (Get other id version)) is) so
+app_tells sys (Log other section) line app result is about so = tells_going (rules_of sys) (text line) result (stops-as sys line (asks (Log other section)) is) so
+app_tells sys (Tracking other leader) line app result is about so = tells_going (rules_of sys) (text line) result (stops-as sys line (asks (Tracking other leader)) is) so
+app_tells sys Sync line app result is about so = absurd (cc about)
+app_tells sys StopOf line app result is about so = absurd (cc about)
+
+-- a line that asks nothing
+pub refusal_tells : (sys : System) (line : List ℕ) (f : LineFault) (result : Result (Unit {0}) Stop) → Answered (request_in sys line) (Err f) → (f ≡ line_fault.NoMemory → result ≡ Err (stop.Fault fault.NoMemory)) → IfErr result IsSaying → TellsStop (rules_of sys) (text line) result
+refusal_tells sys line line_fault.Syntax result asked starved so = tells_going (rules_of sys) (text line) result (stops-as sys line (not_asked line_fault.Syntax) asked) (saying_answers result so)
+refusal_tells sys line line_fault.Unknown result asked starved so = tells_going (rules_of sys) (text line) result (stops-as sys line (not_asked line_fault.Unknown) asked) (saying_answers result so)
+refusal_tells sys line line_fault.Kind result asked starved so = tells_going (rules_of sys) (text line) result (stops-as sys line (not_asked line_fault.Kind) asked) (saying_answers result so)
+refusal_tells sys line line_fault.NoMemory result asked starved so = subst (λ r. TellsStop (rules_of sys) (text line) r) (sym (starved refl)) tt
 
 -- an answer was given, and took readings up to these
 abbrev pub heard : State → Readings → State
@@ -226,7 +330,7 @@ abbrev pub recorded_at : State → Name → Recording → State
 recorded_at s app r = record { histories = put s.histories app (s.histories app ++ r ∷ []); readings = later_readings s.readings; used = s.used }
 
 -- the answer to a command
-module _ (sys : System) (o : Options) (s : State) (H : State → Type 0) (L : Histories → Type 0) (line : List ℕ) (app : Name) (c : CommandOf) (asked : request_in sys line ≡ asks app c) (u w : Option (List ℕ)) where
+module _ (sys : System) (o : Options) (s : State) (H : State → Type 0) (L : Histories → Type 0) (line : List ℕ) (app : Name) (c : CommandOf) (asked : request_in sys line ≡ asks (Do app c)) (u w : Option (List ℕ)) where
   abbrev t : Terms
   t = terms (rules_of sys) o
 
@@ -250,8 +354,8 @@ module _ (sys : System) (o : Options) (s : State) (H : State → Type 0) (L : Hi
   conflict = reply.Conflict (latest (log h) c.id)
 
   -- the turn of the line
-  turn_command : (σ : Setting) → turn_at t.rules o σ.openings (at_line s (text line) σ) ≡ request_turn t.rules o (at_line s (text line) σ) σ.lines (request_of (asks app c))
-  turn_command σ = ap (λ a. request_turn t.rules o (at_line s (text line) σ) σ.lines (request_of a)) asked
+  turn_command : (σ : Setting) → turn_at t.rules o σ.openings (at_line s (text line) σ) ≡ request_turn t.rules o (at_line s (text line) σ) σ.lines (request_of sys (asks (Do app c)))
+  turn_command σ = ap (λ a. request_turn t.rules o (at_line s (text line) σ) σ.lines (request_of sys a)) asked
 
   turn_conflict : differs h c.id c.expect ≡ true → (σ : Setting) → turn_at t.rules o σ.openings (at_line s (text line) σ) ≡ goes_on (only_says conflict) (after_reply s [] σ)
   turn_conflict met σ = turn_command σ ∙ chosen (differs h c.id c.expect) _ _ met
@@ -362,6 +466,23 @@ module _ (sys : System) (o : Options) (s : State) (H : State → Type 0) (L : Hi
         by_test : (b : Bool) → differs h c.id c.expect ≡ b → Faulted t (at_line s (text line)) f L u w
         by_test true met = conflict_failed conflict f (subst (λ a. Leaves a h (Err f) new) (chosen (differs h c.id c.expect) (says conflict) its_answer met) so)
         by_test false unmet = decided_failed unmet f (subst (λ a. Leaves a h (Err f) new) (other (differs h c.id c.expect) (says conflict) its_answer unmet) so)
+
+-- the answer to a question
+module _ (sys : System) (o : Options) (s : State) (H : State → Type 0) (L : Histories → Type 0) (line : List ℕ) (app : Name) (its_reply : List Recording → Reply) (asked : request_of sys (request_in sys line) ≡ question app its_reply) (u w : Option (List ℕ)) where
+  turn_question : (told : Reply) → told ≡ its_reply (s.histories app) → (σ : Setting) → turn_at (rules_of sys) o σ.openings (at_line s (text line) σ) ≡ goes_on (only_says told) (after_reply s [] σ)
+  turn_question told is σ = ap (λ r. request_turn (rules_of sys) o (at_line s (text line) σ) σ.lines r) asked ∙ ap (λ x. goes_on (only_says x) (after_reply s [] σ)) (sym is)
+
+  pub question_answered : (told : Reply) (result : Result (Unit {0}) Stop) → told ≡ its_reply (s.histories app) → RepliesAndDrains (terms (rules_of sys) o) s H [] told L u w result → AnswersLine (terms (rules_of sys) o) s H (text line) L u w result
+  question_answered told result is so = line_said (terms (rules_of sys) o) s s H L (text line) told u w result refl (turn_question told is) so
+
+  -- the application failed to answer
+  pub question_failed : (new : Option (List Recording)) → (new ≡ Some (s.histories app) → L s.histories) → w ≡ u → (told : Reply) (f : RunFault) → Leaves (says told) (s.histories app) (Err f) new → Faulted (terms (rules_of sys) o) (at_line s (text line)) f L u w
+  question_failed new unchanged still told (fault.Refused name leader id recordings code rule) so = absurd (cc so.0)
+  question_failed new unchanged still told (fault.Turns name turns) so = absurd (cc so.0)
+  question_failed new unchanged still told (fault.Unreadable name id) so = absurd (cc so.0)
+  question_failed new unchanged still told (fault.Full name last capacity) so = absurd (cc so.0)
+  question_failed new unchanged still told fault.Recorder so = cut_at_line (terms (rules_of sys) o) s (text line) L u w (unchanged so) still
+  question_failed new unchanged still told fault.NoMemory so = cut_at_line (terms (rules_of sys) o) s (text line) L u w (unchanged so) still
 
 -- a line that asks nothing, or whose reading ran out of memory
 pub line_refused : (sys : System) (o : Options) (s : State) (H : State → Type 0) (L : Histories → Type 0) (line : List ℕ) (f : LineFault) (u w : Option (List ℕ)) (result : Result (Unit {0}) Stop)

@@ -9,7 +9,7 @@ use Rattle.es_model.specs.declared.memory.Failed.{Failed}
 use Rattle.es_process.specs.SingleThread.{Step, Run, IsRun, start, left_by, written_by}
 use Rattle.es_process.specs.Standing.{State, IsFrontOf}
 use Rattle.es_process.specs.Terms.{Terms}
-use Rattle.es_single.specs.Limits.{all_lines}
+use Rattle.es_single.specs.Limits.{lines_for}
 use Rattle.std.specs.Io.KnownBytes.{Appends}
 use Rattle.std.specs.Prelude.{◌≡◌, ◌⊎◌, ℕ, List, [], ◌∷◌, ◌++◌, Contains, Option, Some, Result, Ok, Err}
 
@@ -27,7 +27,7 @@ AreEmpty names openings = (app : Name) → Contains names app → openings app �
 
 -- the run of an input
 abbrev pub IsRunOf : Terms → List ℕ → Readings → Histories → Run → Type 0
-IsRunOf t input readings openings run = IsRun t.rules t.options openings (start t.rules openings readings (all_lines input)) run
+IsRunOf t input readings openings run = IsRun t.rules t.options openings (start t.rules openings readings (lines_for t.rules input)) run
 
 -- the first steps of the run were made, with a front of the next text, and the histories are what they leave
 pub record PartRun (t : Terms) (openings : Histories) (readings : Readings) (input : List ℕ) (left : Histories → Type 0) (before now : Option (List ℕ)) (front : List ℕ) : Type 0 where

@@ -168,6 +168,7 @@ pub fn run<S: Source, T: Sink, R: ProcessRecorder, C: Clock>(
     let _source = reader.into_source();
     match stop {
         Stop::End => Ok(counted(alloc, apps, count)),
+        Stop::Asked => Ok(counted(alloc, apps, count + 1)),
         Stop::Over => Ok(End::Over),
         Stop::Fault(fault) => Ok(fault_end(fault)),
         Stop::Read => Ok(End::Input),

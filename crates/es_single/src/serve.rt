@@ -1,4 +1,4 @@
-ghost use Rattle.std.specs.Prelude.{◌≡◌, ◌<◌, ◌≤◌, ◌^◌, ℕ, List, Option, None, false, OnOk, OnErr, IfErr, IsErrOf};
+ghost use Rattle.std.specs.Prelude.{◌≡◌, ◌<◌, ◌≤◌, ◌^◌, ℕ, List, Option, None, Some, false, option_map, OnOk, OnErr, IfErr, IsErrOf};
 ghost use Rattle.std.specs.List.{position_or_len};
 ghost use Rattle.std.specs.Str.{bytes_eq};
 ghost use Rattle.std.specs.Io.KnownBytes.{Appends};
@@ -7,21 +7,20 @@ ghost use Rattle.es_model.specs.History.{Histories};
 ghost use Rattle.es_model.specs.Lines.{Line, text as text_line};
 ghost use Rattle.es_io.specs.Front.{AppendsFront};
 ghost use Rattle.es_io.specs.LinesLeft.{room_of, has_ended, source_of, fault_of, EndsRightly};
-ghost use Rattle.es_lines.specs.Requests.{IsDeclared, asks, request_in};
+ghost use Rattle.es_lines.specs.Requests.{IsOfSystem, asks, request_in};
 ghost use Rattle.es_process.specs.Answer.{Options};
 ghost use Rattle.es_process.specs.Drains.{IsOnlyPair};
 ghost use Rattle.es_process.specs.SingleThread.{leaders_of};
 ghost use Rattle.es_process.specs.Standing.{State, Holds, HoldHistories, AllStay, SomeRose, names_in};
 ghost use Rattle.es_process.specs.SystemRules.{reply_to, rules_of};
 ghost use Rattle.es_process.specs.Terms.{terms};
-ghost use Rattle.es_single.specs.inner.Serves.{SaysIt, DrainsAfter, RepliesAndDrains, AnswersLine, TakesTurn, Begun, Serves, prompted_by, IsSaying, IsFault, IsAnswering};
+ghost use Rattle.es_single.specs.inner.Serves.{SaysIt, DrainsAfter, RepliesAndDrains, AnswersLine, TellsStop, TakesTurn, Begun, Serves, app_asked, prompted_by, SaysStop, SaysWord, IsSaying, IsFault, IsAnswering, MayStop};
 ghost use Rattle.es_io.specs.Remains.{MayHold, MayHaveLeft, lines_from};
 ghost use Rattle.es_process.specs.Traced.{Traced};
 ghost use Rattle.es_single.specs.inner.Stays.{LinesStay};
 ghost use Rattle.es_single.specs.inner.Taken.{UsesSome, LeavesUnended, Taken};
 ghost use Rattle.es_single.specs.inner.LinesTraced.{LinesTraced};
 
-use es_domain::Command;
 use es_io::{Clock, Lines, LinesFault, Sink, Source, Step, write_all};
 use es_lines::{LineFault, Reply, Request, read_line, reply_text};
 use es_model::{Failed, NoMemory, System, Text};
@@ -35,6 +34,8 @@ use std::slice;
 pub enum Stop {
     /// No line is left.
     End,
+    /// A line asked for it.
+    Asked,
     Over,
     Fault(RunFault),
     Read,
@@ -131,6 +132,24 @@ fn drain_after<R: ProcessRecorder, C: Clock>(
         Reply::Long => Ok(()),
         Reply::Conflict { latest: _ } => Ok(()),
         Reply::Unreadable { app: _, id: _ } => Ok(()),
+        Reply::Got {
+            id: _,
+            version: _,
+            class: _,
+            created_on: _,
+            modified_on: _,
+            fields: _,
+        } => Ok(()),
+        Reply::Log {
+            id: _,
+            items: _,
+            next: _,
+        } => Ok(()),
+        Reply::Tracking { position: _ } => Ok(()),
+        Reply::Sync => Ok(()),
+        Reply::Stop => Ok(()),
+        Reply::NotFound => Ok(()),
+        Reply::Section => Ok(()),
     }
 }
 
@@ -143,20 +162,39 @@ fn place_of<R>(apps: &[Application<R>], name: &Text) -> usize
         .count()
 }
 
-// Answers a line that asks for a command of an application.
-fn answer_command<T: Sink, R: ProcessRecorder, C: Clock>(
+// The application of which a line asks something.
+fn app_asked(request: &Request) -> Option<&Text>
+    ensures { option_map (λ n. n.now) result ≡ app_asked request.now }
+{
+    match request {
+        Request::Do { app, command: _ } => Some(app),
+        Request::Get {
+            app,
+            id: _,
+            version: _,
+        } => Some(app),
+        Request::Log { app, section: _ } => Some(app),
+        Request::Tracking { app, leader: _ } => Some(app),
+        Request::Sync => None,
+        Request::Stop => None,
+    }
+}
+
+// Answers a line that asks something of an application.
+fn answer_app<T: Sink, R: ProcessRecorder, C: Clock>(
     alloc: Global,
     sys: &System,
     pair: &Option<Pair>,
     out: &mut T,
     apps: &mut [Application<R>],
     clock: &mut C,
-    app: Text,
-    command: &Command,
+    app: &Text,
+    request: &Request,
 ) -> Result<(), Stop>
     requires pair { IsOnlyPair sys.now (names_in apps.old) pair.now }
-    requires declared { IsDeclared sys.now app command.now }
-    ensures answered { Traced (C.readings clock.old) (C.readings clock.new) (λ before after. (base : Histories) (options : Options) (s : State) (line : List ℕ) → request_in sys.now line ≡ asks app command.now → Holds R.history R.capacity base options apps.old before s
+    requires about { app_asked request.now ≡ Some app.now }
+    requires declared { IsOfSystem sys.now request.now }
+    ensures answered { Traced (C.readings clock.old) (C.readings clock.new) (λ before after. (base : Histories) (options : Options) (s : State) (line : List ℕ) → request_in sys.now line ≡ asks request.now → Holds R.history R.capacity base options apps.old before s
         → AnswersLine (terms (rules_of sys.now) options) s (Holds R.history R.capacity base options apps.new after) (text_line line) (HoldHistories R.history base apps.new)
         (T.written out.old) (T.written out.new) result) }
     ensures same { AllStay R.snapshots R.faults apps.old apps.new }
@@ -165,8 +203,8 @@ fn answer_command<T: Sink, R: ProcessRecorder, C: Clock>(
     ensures recorder { IsErrOf result (Stop.Fault RunFault.Recorder) → SomeRose R.faults apps.old apps.new }
     ensures stops { IfErr result IsAnswering }
 {
-    let place = place_of(apps, &app);
-    match apps[place].answer(alloc, sys, command, clock) {
+    let place = place_of(apps, app);
+    match apps[place].answer(alloc, sys, request, clock) {
         Ok(reply) => reply_and_drain(
             alloc,
             sys,
@@ -174,10 +212,65 @@ fn answer_command<T: Sink, R: ProcessRecorder, C: Clock>(
             out,
             apps,
             clock,
-            slice::from_ref(&app),
+            slice::from_ref(app),
             &reply,
         ),
         Err(fault) => Err(Stop::Fault(fault)),
+    }
+}
+
+// Replies to a line that asks to stop.
+fn say_stop<T: Sink>(alloc: Global, out: &mut T) -> Result<(), Stop>
+    ensures said { SaysStop (T.written out.old) (T.written out.new) result }
+    ensures later { T.faults out.old ≤ T.faults out.new }
+    ensures sink { IsErrOf result Stop.Sink → Rose (T.faults out.old) (T.faults out.new) }
+{
+    match say(alloc, out, &Reply::Stop) {
+        Ok(()) => Err(Stop::Asked),
+        Err(stop) => Err(stop),
+    }
+}
+
+// Replies to a line of one word.
+fn answer_word<T: Sink>(alloc: Global, out: &mut T, request: &Request) -> Result<(), Stop>
+    requires word { app_asked request.now ≡ None }
+    ensures said { SaysWord request.now (T.written out.old) (T.written out.new) result }
+    ensures later { T.faults out.old ≤ T.faults out.new }
+    ensures sink { IsErrOf result Stop.Sink → Rose (T.faults out.old) (T.faults out.new) }
+    ensures stops { IfErr result MayStop }
+{
+    match request {
+        Request::Sync => say(alloc, out, &Reply::Sync),
+        Request::Stop => say_stop(alloc, out),
+        _ => unreachable!(),
+    }
+}
+
+// Answers what a line asks.
+fn answer_request<T: Sink, R: ProcessRecorder, C: Clock>(
+    alloc: Global,
+    sys: &System,
+    pair: &Option<Pair>,
+    out: &mut T,
+    apps: &mut [Application<R>],
+    clock: &mut C,
+    request: &Request,
+) -> Result<(), Stop>
+    requires pair { IsOnlyPair sys.now (names_in apps.old) pair.now }
+    requires declared { IsOfSystem sys.now request.now }
+    ensures answered { Traced (C.readings clock.old) (C.readings clock.new) (λ before after. (base : Histories) (options : Options) (s : State) (line : List ℕ) → request_in sys.now line ≡ asks request.now → Holds R.history R.capacity base options apps.old before s
+        → AnswersLine (terms (rules_of sys.now) options) s (Holds R.history R.capacity base options apps.new after) (text_line line) (HoldHistories R.history base apps.new)
+        (T.written out.old) (T.written out.new) result) }
+    ensures tells { (line : List ℕ) → request_in sys.now line ≡ asks request.now → TellsStop (rules_of sys.now) (text_line line) result }
+    ensures same { AllStay R.snapshots R.faults apps.old apps.new }
+    ensures out_later { T.faults out.old ≤ T.faults out.new }
+    ensures sink { IsErrOf result Stop.Sink → Rose (T.faults out.old) (T.faults out.new) }
+    ensures recorder { IsErrOf result (Stop.Fault RunFault.Recorder) → SomeRose R.faults apps.old apps.new }
+    ensures stops { IfErr result MayStop }
+{
+    match app_asked(request) {
+        Some(app) => answer_app(alloc, sys, pair, out, apps, clock, app, request),
+        None => answer_word(alloc, out, request),
     }
 }
 
@@ -211,16 +304,15 @@ fn answer_line<T: Sink, R: ProcessRecorder, C: Clock>(
     ensures answered { Traced (C.readings clock.old) (C.readings clock.new) (λ before after. (base : Histories) (options : Options) (s : State) → Holds R.history R.capacity base options apps.old before s
         → AnswersLine (terms (rules_of sys.now) options) s (Holds R.history R.capacity base options apps.new after) (text_line line.now) (HoldHistories R.history base apps.new)
         (T.written out.old) (T.written out.new) result) }
+    ensures tells { TellsStop (rules_of sys.now) (text_line line.now) result }
     ensures same { AllStay R.snapshots R.faults apps.old apps.new }
     ensures out_later { T.faults out.old ≤ T.faults out.new }
     ensures sink { IsErrOf result Stop.Sink → Rose (T.faults out.old) (T.faults out.new) }
     ensures recorder { IsErrOf result (Stop.Fault RunFault.Recorder) → SomeRose R.faults apps.old apps.new }
-    ensures stops { IfErr result IsAnswering }
+    ensures stops { IfErr result MayStop }
 {
     match read_line(alloc, sys, line) {
-        Ok(Request::Do { app, command }) => {
-            answer_command(alloc, sys, pair, out, apps, clock, app, &command)
-        }
+        Ok(request) => answer_request(alloc, sys, pair, out, apps, clock, &request),
         Err(fault) => refuse(alloc, out, fault),
     }
 }
@@ -281,6 +373,7 @@ fn answer_all<S: Source, T: Sink, R: ProcessRecorder, C: Clock>(
     ensures answered { LinesTraced S.left lines.old lines.new (C.readings clock.old) (C.readings clock.new) (λ a b before after. ((base : Histories) (options : Options) (s n : State) (u : Option (List ℕ)) → Begun (terms (rules_of sys.now) options) s n u (T.written out.old) → Holds R.history R.capacity base options apps.old before n
         → Serves (terms (rules_of sys.now) options) s (Holds R.history R.capacity base options apps.new after) (lines_from lines.old a) result.0 result.1 (HoldHistories R.history base apps.new) u (T.written out.new))
         × (result.0 ≡ Stop.Read → Taken a result.1 b)) }
+    ensures count { result.1 < 2 ^ 63 }
     ensures left { result.0 ≡ Stop.Read → (b : List ℕ) → MayHold (S.left (source_of lines.new).now) b → MayHaveLeft S.left lines.new b }
     ensures lines { LinesStay S.left S.faults lines.old lines.new }
     ensures out_later { T.faults out.old ≤ T.faults out.new }
@@ -319,6 +412,7 @@ pub fn serve<S: Source, T: Sink, R: ProcessRecorder, C: Clock>(
         → Serves (terms (rules_of sys.now) options) s (Holds R.history R.capacity base options apps.new after) (lines_from lines.old a) result.0 result.1 (HoldHistories R.history base apps.new)
         (T.written out.old) (T.written out.new))
         × (result.0 ≡ Stop.Read → Taken a result.1 b)) }
+    ensures count { result.1 < 2 ^ 63 }
     ensures left { result.0 ≡ Stop.Read → (b : List ℕ) → MayHold (S.left (source_of lines.new).now) b → MayHaveLeft S.left lines.new b }
     ensures lines { LinesStay S.left S.faults lines.old lines.new }
     ensures out_later { T.faults out.old ≤ T.faults out.new }

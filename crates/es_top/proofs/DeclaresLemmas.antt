@@ -19,7 +19,7 @@ use Rattle.es_top.specs.declared.loading.LoadFault.{LoadFault}
 use Rattle.es_top.specs.declared.loading.LoadFault.TheVariants.{Declaration, Failed, NoMemory}
 use Rattle.es_top.specs.declared.status.Status.{Status}
 use Rattle.es_top.specs.declared.status.Status.TheVariants as status
-use Rattle.es_top.specs.Declares.{IsNotAsked, declares, declares_for, document_declares, name_declares}
+use Rattle.es_top.specs.Declares.{IsEndUnasked, IsNotAsked, declares, declares_for, document_declares, name_declares}
 use Rattle.es_top.specs.Ends.{Sort, itself, stopped, unbuilt, unbegun, ended, end_of_load, sort_of, Writes}
 use Rattle.es_top.specs.Loads.{Loads}
 use Rattle.es_top.specs.Top.{Ran}
@@ -80,6 +80,12 @@ module _ (docs : Option NamedDocuments) (words : List (String Global)) (name : N
       let clash : Ok sys ≡ Err (code, path) = loads.is (Ok sys) (named (Some (Ok sys)) is) in absurd (cc clash)
   fault_ran L S D Failed failed loads sys is i unread r h new u w s writes same = ran_unread L S D (failed refl) sys (name_checked docs name sys (named (Some (Ok sys)) is)) i unread r h new u w s same writes
   fault_ran L S D NoMemory failed loads sys is i unread r h new u w s writes same = ran_starved L S D sys (name_checked docs name sys (named (Some (Ok sys)) is)) i unread r h new u w s same writes
+
+  -- the end of a system that couldn't be loaded
+  pub fault_unasked : (failing : Type 0) (fault : LoadFault) → (fault ≡ Failed → failing) → Loads docs name (Err fault) → IsEndUnasked docs words failing (end_of_load fault)
+  fault_unasked failing (Declaration code path) failed loads = λ d is. loads.is d (named (Some d) is)
+  fault_unasked failing Failed failed loads = failed refl
+  fault_unasked failing NoMemory failed loads = tt
 
   -- a system was loaded, so the words ask for one
   pub asked : {P : Type 0} (mine : System) → Loads docs name (Ok mine) → IsNotAsked docs words → P

@@ -25,7 +25,7 @@ use Rattle.es_process.proofs.DeclaredLemmas.{declared-lawful}
 use Rattle.es_process.proofs.RunReachedLemmas.{run-reached}
 use Rattle.es_process.proofs.RunSessionLemmas.{run-consistent, run-session, run-lines}
 use Rattle.es_process.proofs.StandingLemmas.{appends_then}
-use Rattle.es_single.specs.Limits.{limits, all_lines}
+use Rattle.es_single.specs.Limits.{limits, lines_for}
 use Rattle.es_single.specs.Runs.{AreEmpty}
 use Rattle.es_top.specs.declared.loading.LoadFault.{LoadFault}
 use Rattle.es_top.specs.declared.loading.LoadFault.TheVariants as fault
@@ -105,9 +105,9 @@ module _ (L S D : Type 0) (sys : System) (checked : IsCheckedSystem sys) (i : Li
   done_well : (added : List (Name × ℕ)) (count : ℕ) → s ≡ status.Ok added count → IsDone sys i h (left_by x.done h) added count
   done_well added count is =
       let follows : Follows L S D sys i unread r h x.run x.done x.rest (end.Ok added count) = ends_well added count is in
-      let counts = run-lines (rules_of sys) (declared-lawful sys checked) limits h r (all_lines i) x.run x.is x.done x.rest x.parts follows.1 added count follows.2 in
+      let counts = run-lines (rules_of sys) (declared-lawful sys checked) limits h r (lines_for (rules_of sys) i) x.run x.is x.done x.rest x.parts follows.1 added count follows.2 in
       record {
-        reached = run-reached (rules_of sys) limits h r (all_lines i) x.run x.is (none_ahead h (app_names sys) follows.0.1 (rules_of sys).pairs (λ p. pair-declared sys p checked)) x.done x.rest x.parts follows.1 added count follows.2;
+        reached = run-reached (rules_of sys) limits h r (lines_for (rules_of sys) i) x.run x.is (none_ahead h (app_names sys) follows.0.1 (rules_of sys).pairs (λ p. pair-declared sys p checked)) x.done x.rest x.parts follows.1 added count follows.2;
         all = counts.1 ∙ counts.0;
         counts = counts.2;
       }
@@ -117,8 +117,8 @@ module _ (L S D : Type 0) (sys : System) (checked : IsCheckedSystem sys) (i : Li
     tail = tail;
     made = x;
     closes = closes;
-    consistent = run-consistent (rules_of sys) (declared-lawful sys checked) limits h r (all_lines i) x.run x.is x.done x.rest x.parts;
-    session = run-session (rules_of sys) (declared-lawful sys checked) limits h r (all_lines i) x.run x.is x.done x.rest x.parts (code_of s) all_made;
+    consistent = run-consistent (rules_of sys) (declared-lawful sys checked) limits h r (lines_for (rules_of sys) i) x.run x.is x.done x.rest x.parts;
+    session = run-session (rules_of sys) (declared-lawful sys checked) limits h r (lines_for (rules_of sys) i) x.run x.is x.done x.rest x.parts (code_of s) all_made;
     well = done_well;
   }
 
@@ -285,20 +285,15 @@ load_told f s v w writes = by (ended s) refl writes
     by (Some told) is (inr same, line) = inr (inr (memory s (is ∙ ap Some same.0)))
 
 -- the end of a run that couldn't be loaded comes before it, or tells want of memory
-pub load_early : (f : LoadFault) → (sort_of (end_of_load f) ≡ unbegun) ⊎ (end_of_load f ≡ end.Memory)
-load_early (fault.Declaration code path) = inl refl
-load_early fault.Failed = inl refl
-load_early fault.NoMemory = inr refl
-
--- a front of the end line of a run that didn't begin
-pub early_front : (e : End) (s : Status) (u w : Option (List ℕ)) → (sort_of e ≡ unbegun) ⊎ (e ≡ end.Memory) → Writes e u w (ended s) → s ≡ status.Sink → (x : End) × ((sort_of x ≡ unbegun) ⊎ (x ≡ end.Memory)) × AppendsFront u w (as_line (end_text x))
-early_front e s u w early writes is = by (subst (λ y. Writes e u w (ended y)) is writes)
+-- a front of the line of an end of which this holds, as it does of want of memory
+pub early_front : (P : End → Type 0) (e : End) (s : Status) (u w : Option (List ℕ)) → P e → P end.Memory → Writes e u w (ended s) → s ≡ status.Sink → (x : End) × P x × AppendsFront u w (as_line (end_text x))
+early_front P e s u w so starved writes is = by (subst (λ y. Writes e u w (ended y)) is writes)
   where
-    told : (x : End) → IsToldAs e x → (sort_of x ≡ unbegun) ⊎ (x ≡ end.Memory)
-    told x (inl same) = subst (λ y. (sort_of y ≡ unbegun) ⊎ (y ≡ end.Memory)) (sym same) early
-    told x (inr same) = inr same.0
+    told : (x : End) → IsToldAs e x → P x
+    told x (inl same) = subst P (sym same) so
+    told x (inr same) = subst P (sym same.0) starved
 
-    by : Writes e u w None → (x : End) × ((sort_of x ≡ unbegun) ⊎ (x ≡ end.Memory)) × AppendsFront u w (as_line (end_text x))
+    by : Writes e u w None → (x : End) × P x × AppendsFront u w (as_line (end_text x))
     by y = (y.0, told y.0 y.1, y.2)
 
 -- a claim on the end of a run, unless it is that memory ran out, is one on its status

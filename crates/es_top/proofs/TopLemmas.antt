@@ -20,7 +20,7 @@ use Rattle.es_process.specs.Standing.{AreDistinct, SomeRose, faults_at, names_in
 use Rattle.es_process.specs.SystemRules.{rules_of, app_names}
 use Rattle.es_process.proofs.DrainLemmas.{run-exists}
 use Rattle.es_process.proofs.StandingLemmas.{appends_nothing}
-use Rattle.es_single.specs.Limits.{limits, terms_of, all_lines}
+use Rattle.es_single.specs.Limits.{limits, terms_of, lines_for}
 use Rattle.es_single.specs.Runs.{AreEmpty, IsRunning, PartRun, Runs, WholeRun}
 use Rattle.es_single.specs.Traced.{OfInput}
 use Rattle.es_top.specs.Ends.{itself, sort_of, unbegun}
@@ -47,7 +47,7 @@ of_then x f = record { input = x.input; rest = x.rest; readings = x.readings; he
 -- nothing was run; all steps are still to be made
 abbrev pub made_none : (sys : System) (i : List ℕ) (r : Readings) (h : Histories) (left : Histories → Type 0) (u w : Option (List ℕ)) → left h → w ≡ u → Made sys i r h left u w []
 made_none sys i r h left u w held still =
-    let one = run-exists (rules_of sys) limits h r (all_lines i) in
+    let one = run-exists (rules_of sys) limits h r (lines_for (rules_of sys) i) in
     record { run = one.run; done = []; rest = one.run.steps; is = one.is; parts = refl; begun = inr refl; held = held; written = subst (λ x. Appends u x []) (sym still) (appends_nothing u) }
 
 -- a run over applications that were found empty

@@ -9,6 +9,8 @@ use Rattle.es_io.specs.Documents.{NamedDocuments}
 use Rattle.es_decl.specs.Declaration.{declared}
 use Rattle.es_decl.specs.Readings.{Fault, Reading}
 use Rattle.es_decl.specs.declared.builtin.TheConstants.{SAMPLE}
+use Rattle.es_lines.specs.declared.ends.End.{End}
+use Rattle.es_lines.specs.declared.ends.End.TheVariants as end
 use Rattle.es_top.specs.Words.{system_in}
 
 -- what the document of a name declares, where the documents are told and it is one of them
@@ -27,6 +29,22 @@ declares_for documents (Some name) = name_declares documents name
 -- what the words ask for: a system, or the first fault of its document; or nothing, where they are of another form, or the document isn't told or isn't there
 abbrev pub declares : Option NamedDocuments → List (String Global) → Option (Reading System)
 declares documents words = declares_for documents (system_in words)
+
+-- an end of a run that begins no system: of words of another form, of a document that is refused, with its first fault, of one that failed, and want of memory
+abbrev pub IsEndUnasked : Option NamedDocuments → List (String Global) → Type 0 → End → Type 0
+IsEndUnasked documents words failed end.Usage = system_in words ≡ None
+IsEndUnasked documents words failed (end.Declaration code path) = (d : Reading System) → declares documents words ≡ Some d → d ≡ Err (code, path)
+IsEndUnasked documents words failed end.System = failed
+IsEndUnasked documents words failed end.Memory = Unit {0}
+IsEndUnasked documents words failed end.Input = ⊥
+IsEndUnasked documents words failed end.Recorder = ⊥
+IsEndUnasked documents words failed end.Over = ⊥
+IsEndUnasked documents words failed end.NotBuilt = ⊥
+IsEndUnasked documents words failed (end.Ok added lines) = ⊥
+IsEndUnasked documents words failed (end.Refused app leader id recordings code rule) = ⊥
+IsEndUnasked documents words failed (end.Turns app turns) = ⊥
+IsEndUnasked documents words failed (end.Unreadable app id) = ⊥
+IsEndUnasked documents words failed (end.Full app last capacity) = ⊥
 
 -- they ask for no system: they are of another form, or the document is refused, or it is none of those that are told
 abbrev pub IsNotAsked : Option NamedDocuments → List (String Global) → Type 0

@@ -17,7 +17,7 @@ use Rattle.es_process.specs.Session.{IsSession, writes_in}
 use Rattle.es_process.specs.SingleThread.{Step, Run, added_counts, left_by, written_by, as_line}
 use Rattle.es_process.specs.Standing.{IsFrontOf}
 use Rattle.es_process.specs.SystemRules.{rules_of}
-use Rattle.es_single.specs.Limits.{limits, terms_of, all_lines}
+use Rattle.es_single.specs.Limits.{limits, terms_of, lines_for}
 use Rattle.es_single.specs.Runs.{IsRunOf, ReadTo}
 use Rattle.es_top.specs.declared.status.Status.{Status}
 use Rattle.es_top.specs.declared.status.Status.TheVariants as status
@@ -54,10 +54,10 @@ module _ (lines stores document : Type 0) (sys : System) (input unread : List �
   Closes tail (Some e) = (tail ≡ as_line (end_text e)) × Follows e
   Closes tail None = IsFrontOf tail rest ⊎ ((e : End) × (more : List ℕ) × Follows e × (as_line (end_text e) ≡ tail ++ more))
 
--- a run that ended well: each follower has reached its leaders' last notifications, all lines were answered, and the end line counts them and the recordings
+-- a run that ended well: each follower has reached its leaders' last notifications, all lines were answered, up to the first that asks to stop, and the end line counts them and the recordings
 pub record IsDone (sys : System) (input : List ℕ) (openings histories : Histories) (added : List (Name × ℕ)) (count : ℕ) : Type 0 where
   pub reached : IsReached (rules_of sys).pairs histories
-  pub all : count ≡ length (all_lines input)
+  pub all : count ≡ length (lines_for (rules_of sys) input)
   pub counts : added ≡ added_counts (rules_of sys).names openings histories
 
 -- what a call leaves that runs a system over an input, readings and openings: first steps of the run and what comes after them, by the status; a session over histories that are consistent over the openings; and all of the run where it ended well
@@ -66,7 +66,7 @@ pub record Ran (lines stores document : Type 0) (sys : System) (input unread : L
   pub made : Made sys input readings openings (λ histories. held ≡ Some histories) before now tail
   pub closes : Closes lines stores document sys input unread readings openings made.run made.done made.rest tail (ended s)
   pub consistent : IsConsistent (rules_of sys) openings (left_by made.done openings)
-  pub session : IsSession (rules_of sys) limits openings (left_by made.done openings) readings (all_lines input) (writes_in made.done) (written_by made.done) (code_of s)
+  pub session : IsSession (rules_of sys) limits openings (left_by made.done openings) readings (lines_for (rules_of sys) input) (writes_in made.done) (written_by made.done) (code_of s)
   pub well : (added : List (Name × ℕ)) (count : ℕ) → s ≡ status.Ok added count → IsDone sys input openings (left_by made.done openings) added count
 
 -- where the words ask for a system, the sample or what a document declares that is told, and the stores are told

@@ -20,7 +20,7 @@ ghost use Rattle.es_process.specs.SystemRules.{rules_of, app_names};
 ghost use Rattle.es_single.specs.Limits.{limits, TakesLines};
 ghost use Rattle.es_single.specs.Runs.{state_of};
 ghost use Rattle.es_single.specs.Traced.{OfInput};
-ghost use Rattle.es_top.specs.Declares.{declares, IsNotAsked};
+ghost use Rattle.es_top.specs.Declares.{IsEndUnasked, declares, IsNotAsked};
 ghost use Rattle.es_top.specs.Ends.{end_of_load, ended, itself, sort_of, sorted, status_of_load, unbegun, IfSeen, IsStopped, Writes};
 ghost use Rattle.es_top.specs.Opened.{IsNotBuilt, IsBuilt, is_beyond};
 ghost use Rattle.es_top.specs.inner.Ran.{IsOfSystem, Stands};
@@ -240,11 +240,11 @@ pub fn evsys_single<D: Document, S: Source, T: Sink, M: Stores, C: Clock>(
     // Where the words ask for no system that is told, nothing is run.
     ensures not_run { (documents : NamedDocuments) → D.documents system.old ≡ Some documents → declares (Some documents) words.now ≡ None → (result ≡ Status.Usage) ⊎ IsStopped result }
 
-    // Where the words ask for no system nothing else is touched at any status, and the bytes are an end line or a front of one.
+    // Where the words ask for no system nothing else is touched at any status, and the bytes are the end line or a front of the one that would have come.
     ensures not_run_stores { IsNotAsked (D.documents system.old) words.now → stores.new ≡ stores.old }
     ensures not_run_lines { IsNotAsked (D.documents system.old) words.now → lines.new ≡ lines.old }
     ensures not_run_line { IsNotAsked (D.documents system.old) words.now → result ≡ Status.Memory → Appends (T.written out.old) (T.written out.new) (as_line (text_of_end End.Memory)) }
-    ensures not_run_front { IsNotAsked (D.documents system.old) words.now → result ≡ Status.Sink → (e : EndOf) × ((sort_of e ≡ unbegun) ⊎ (e ≡ End.Memory)) × AppendsFront (T.written out.old) (T.written out.new) (as_line (text_of_end e)) }
+    ensures not_run_front { IsNotAsked (D.documents system.old) words.now → result ≡ Status.Sink → (e : EndOf) × IsEndUnasked (D.documents system.old) words.now (Rose (D.faults system.old) (D.faults system.new)) e × AppendsFront (T.written out.old) (T.written out.new) (as_line (text_of_end e)) }
 
     // At the statuses 2, 3 and 4 nothing else is touched, and the end line is written.
     ensures early_stores { sorted result ≡ Some unbegun → stores.new ≡ stores.old }

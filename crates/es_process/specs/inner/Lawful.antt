@@ -4,7 +4,8 @@ use Rattle.es_model.specs.declared.event.Recording.{Recording}
 use Rattle.es_model.specs.declared.event.Cause.TheVariants.{Command, Notification}
 use Rattle.es_model.specs.Values.{Name, Id}
 use Rattle.es_process.specs.Decision.{Rules, Logs}
-use Rattle.es_process.specs.Requests.{command}
+use Rattle.es_lines.specs.declared.replies.Reply.{Reply}
+use Rattle.es_process.specs.Requests.{command, question}
 
 -- of the leaders' logs, what is decided on a command depends on nothing, and what is decided on a notification depends on its own entry alone
 pub record IsLocal (rules : Rules) : Type 0 where
@@ -17,4 +18,5 @@ pub record IsLawful (rules : Rules) : Type 0 where
   pub local : IsLocal rules
   pub canonical : (line asked : List ℕ) (app : Name) (id : Id) (expect : Option ℕ) → rules.request line ≡ command app asked id expect → rules.request asked ≡ command app asked id expect
   pub named : (line asked : List ℕ) (app : Name) (id : Id) (expect : Option ℕ) → rules.request line ≡ command app asked id expect → Contains rules.names app
+  pub questioned : (line : List ℕ) (app : Name) (reply : List Recording → Reply) → rules.request line ≡ question app reply → Contains rules.names app
   pub paired : (p : Name × Name) → Contains rules.pairs p → Contains rules.names p.0 × Contains rules.names p.1

@@ -1,5 +1,5 @@
 -- What answering lines over opened applications leaves.
-use Rattle.std.specs.Prelude.{◌≡◌, ◌⊎◌, ℕ, ◌+◌, List, [], ◌∷◌, ◌++◌, length, Option, Result, Ok, Err}
+use Rattle.std.specs.Prelude.{◌≡◌, ◌⊎◌, ℕ, ◌+◌, true, false, List, [], ◌∷◌, ◌++◌, length, Option, None, Some, Result, Ok, Err, IfErr}
 use Rattle.std.specs.Io.KnownBytes.{Appends}
 use Rattle.es_model.specs.History.{Histories}
 use Rattle.es_model.specs.Lines.{Line, over}
@@ -7,10 +7,13 @@ use Rattle.es_model.specs.Values.{Name}
 use Rattle.es_io.specs.Front.{AppendsFront}
 use Rattle.es_lines.specs.declared.replies.Reply.{Reply}
 use Rattle.es_lines.specs.declared.replies.Reply.TheVariants as reply
+use Rattle.es_lines.specs.declared.request.Request.{Request}
+use Rattle.es_lines.specs.declared.request.Request.TheVariants.{Do, Get, Log, Tracking, Sync, Stop as StopOf}
 use Rattle.es_lines.specs.declared.ends.End.TheVariants as end
 use Rattle.es_lines.specs.Texts.{reply_text}
 use Rattle.es_process.specs.declared.faults.RunFault.TheVariants as fault
-use Rattle.es_process.specs.SingleThread.{Step, Goes, leaders_of, written_by, as_line}
+use Rattle.es_process.specs.Decision.{Rules}
+use Rattle.es_process.specs.SingleThread.{Step, Goes, leaders_of, stops_lines, up_to_stop, written_by, as_line}
 use Rattle.es_process.specs.Standing.{State, Places, stand, Came, Ended, CutInText, Faulted}
 use Rattle.es_process.specs.Terms.{Terms}
 use Rattle.es_single.specs.declared.serve.Stop.{Stop}
@@ -27,6 +30,7 @@ SaysIt said before now (Err (stop.Fault (fault.Turns app turns))) = ⊥
 SaysIt said before now (Err (stop.Fault (fault.Unreadable app id))) = ⊥
 SaysIt said before now (Err (stop.Fault (fault.Full app last capacity))) = ⊥
 SaysIt said before now (Err stop.End) = ⊥
+SaysIt said before now (Err stop.Asked) = ⊥
 SaysIt said before now (Err stop.Over) = ⊥
 SaysIt said before now (Err stop.Read) = ⊥
 
@@ -39,6 +43,7 @@ abbrev pub IsFault : Stop → Type 0
 IsFault (stop.Fault f) = Unit {0}
 IsFault stop.Sink = ⊥
 IsFault stop.End = ⊥
+IsFault stop.Asked = ⊥
 IsFault stop.Over = ⊥
 IsFault stop.Read = ⊥
 
@@ -46,9 +51,38 @@ IsFault stop.Read = ⊥
 abbrev pub IsAnswering : Stop → Type 0
 IsAnswering (stop.Fault f) = Unit {0}
 IsAnswering stop.Sink = Unit {0}
+IsAnswering stop.Asked = ⊥
 IsAnswering stop.End = ⊥
 IsAnswering stop.Over = ⊥
 IsAnswering stop.Read = ⊥
+
+-- what may come of a line: it may ask to stop, besides
+abbrev pub MayStop : Stop → Type 0
+MayStop (stop.Fault f) = Unit {0}
+MayStop stop.Sink = Unit {0}
+MayStop stop.Asked = Unit {0}
+MayStop stop.End = ⊥
+MayStop stop.Over = ⊥
+MayStop stop.Read = ⊥
+
+-- what may come of replying to a line that asks to stop
+abbrev pub SaysStop : Option (List ℕ) → Option (List ℕ) → Result (Unit {0}) Stop → Type 0
+SaysStop before now (Ok x) = ⊥
+SaysStop before now (Err stop.Asked) = SaysIt reply.Stop before now (Ok tt)
+SaysStop before now (Err stop.Sink) = SaysIt reply.Stop before now (Err stop.Sink)
+SaysStop before now (Err (stop.Fault f)) = SaysIt reply.Stop before now (Err (stop.Fault f))
+SaysStop before now (Err stop.End) = ⊥
+SaysStop before now (Err stop.Over) = ⊥
+SaysStop before now (Err stop.Read) = ⊥
+
+-- the reply to a line of one word was written, or not
+abbrev pub SaysWord : Request → Option (List ℕ) → Option (List ℕ) → Result (Unit {0}) Stop → Type 0
+SaysWord Sync before now result = SaysIt reply.Sync before now result × IfErr result IsSaying
+SaysWord StopOf before now result = SaysStop before now result
+SaysWord (Do app c) before now result = ⊥
+SaysWord (Get app id version) before now result = ⊥
+SaysWord (Log app section) before now result = ⊥
+SaysWord (Tracking app leader) before now result = ⊥
 
 -- this line comes next, and nothing is to be drained
 abbrev pub at_line : State → Line → Places
@@ -72,6 +106,22 @@ prompted_by reply.Kind prompted = []
 prompted_by reply.Long prompted = []
 prompted_by (reply.Conflict latest) prompted = []
 prompted_by (reply.Unreadable app id) prompted = []
+prompted_by (reply.Got id version class created_on modified_on fields) prompted = []
+prompted_by (reply.Log id items next) prompted = []
+prompted_by (reply.Tracking position) prompted = []
+prompted_by reply.Sync prompted = []
+prompted_by reply.Stop prompted = []
+prompted_by reply.NotFound prompted = []
+prompted_by reply.Section prompted = []
+
+-- the application of which a line asks something
+abbrev pub app_asked : Request → Option Name
+app_asked (Do app c) = Some app
+app_asked (Get app id version) = Some app
+app_asked (Log app section) = Some app
+app_asked (Tracking app leader) = Some app
+app_asked Sync = None
+app_asked StopOf = None
 
 -- the drain after a reply
 abbrev pub DrainsAfter : Terms → State → (State → Type 0) → List Name → (Histories → Type 0) → Option (List ℕ) → Result (Unit {0}) Stop → Type 0
@@ -79,6 +129,7 @@ DrainsAfter t s holds prompted left u (Ok x) = Came t (after_reply s prompted) h
 DrainsAfter t s holds prompted left u (Err (stop.Fault f)) = Faulted t (after_reply s prompted) f left u u
 DrainsAfter t s holds prompted left u (Err stop.Sink) = ⊥
 DrainsAfter t s holds prompted left u (Err stop.End) = ⊥
+DrainsAfter t s holds prompted left u (Err stop.Asked) = ⊥
 DrainsAfter t s holds prompted left u (Err stop.Over) = ⊥
 DrainsAfter t s holds prompted left u (Err stop.Read) = ⊥
 
@@ -95,6 +146,7 @@ RepliesAndDrains t s holds prompted said left before now (Err (stop.Fault f)) =
     ((f ≡ fault.NoMemory) × (now ≡ before) × left s.histories) ⊎ Replied said before (λ middle. Faulted t (after_reply s prompted) f left middle now)
 RepliesAndDrains t s holds prompted said left before now (Err stop.Sink) = AppendsFront before now (as_line (reply_text said)) × left s.histories
 RepliesAndDrains t s holds prompted said left before now (Err stop.End) = ⊥
+RepliesAndDrains t s holds prompted said left before now (Err stop.Asked) = ⊥
 RepliesAndDrains t s holds prompted said left before now (Err stop.Over) = ⊥
 RepliesAndDrains t s holds prompted said left before now (Err stop.Read) = ⊥
 
@@ -103,9 +155,20 @@ abbrev pub AnswersLine : Terms → State → (State → Type 0) → Line → (Hi
 AnswersLine t s holds line left before now (Ok x) = Came t (at_line s line) holds before now past_it
 AnswersLine t s holds line left before now (Err (stop.Fault f)) = Faulted t (at_line s line) f left before now
 AnswersLine t s holds line left before now (Err stop.Sink) = CutInText t (at_line s line) left before now
+AnswersLine t s holds line left before now (Err stop.Asked) = Came t (at_line s line) holds before now past_it
 AnswersLine t s holds line left before now (Err stop.End) = ⊥
 AnswersLine t s holds line left before now (Err stop.Over) = ⊥
 AnswersLine t s holds line left before now (Err stop.Read) = ⊥
+
+-- what comes of a line tells whether it asks to stop
+abbrev pub TellsStop : Rules → Line → Result (Unit {0}) Stop → Type 0
+TellsStop rules line (Ok x) = stops_lines rules line ≡ false
+TellsStop rules line (Err stop.Asked) = stops_lines rules line ≡ true
+TellsStop rules line (Err (stop.Fault f)) = Unit {0}
+TellsStop rules line (Err stop.Sink) = Unit {0}
+TellsStop rules line (Err stop.End) = Unit {0}
+TellsStop rules line (Err stop.Over) = Unit {0}
+TellsStop rules line (Err stop.Read) = Unit {0}
 
 -- the lines begin with one, of which this holds
 pub record FirstOf (P : Line → Type 0) (lines : List Line) : Type 0 where
@@ -121,16 +184,17 @@ pub record Idle (s : State) (holds : State → Type 0) (before now : Option (Lis
 
 -- what the next line leaves, where these lines are to come, and then those
 abbrev pub TakesTurn : Terms → State → (State → Type 0) → List Line → List Line → (Histories → Type 0) → Option (List ℕ) → Option (List ℕ) → Result (Unit {0}) Stop → Type 0
-TakesTurn t s holds lines coming left before now (Ok x) = (line : Line) × (lines ≡ line ∷ coming) × (line ≡ over → ⊥) × Came t (at_line s line) holds before now past_it
+TakesTurn t s holds lines coming left before now (Ok x) = (line : Line) × (lines ≡ line ∷ coming) × (line ≡ over → ⊥) × (stops_lines t.rules line ≡ false) × Came t (at_line s line) holds before now past_it
+TakesTurn t s holds lines coming left before now (Err stop.Asked) = (line : Line) × (lines ≡ line ∷ coming) × (line ≡ over → ⊥) × (stops_lines t.rules line ≡ true) × Came t (at_line s line) holds before now past_it
 TakesTurn t s holds lines coming left before now (Err (stop.Fault f)) = ((f ≡ fault.NoMemory) × Idle s holds before now) ⊎ FirstOf (λ line. Faulted t (at_line s line) f left before now) lines
 TakesTurn t s holds lines coming left before now (Err stop.Sink) = FirstOf (λ line. CutInText t (at_line s line) left before now) lines
 TakesTurn t s holds lines coming left before now (Err stop.End) = (lines ≡ []) × Idle s holds before now
 TakesTurn t s holds lines coming left before now (Err stop.Over) = (lines ≡ over ∷ []) × Idle s holds before now
 TakesTurn t s holds lines coming left before now (Err stop.Read) = Idle s holds before now
 
--- a run over these lines, and all leaders are prompted
+-- a run over these lines, up to the first that asks to stop, and all leaders are prompted
 abbrev pub whole : Terms → State → List Line → Places
-whole t s lines = λ σ. stand s (leaders_of t.rules.pairs) [] lines 0
+whole t s lines = λ σ. stand s (leaders_of t.rules.pairs) [] (up_to_stop t.rules lines) 0
 
 -- all lines but these were answered, and nothing is to be drained
 abbrev pub served : List Line → ℕ → State → Places
@@ -141,12 +205,18 @@ abbrev pub NoneOver : List Line → Type 0
 NoneOver [] = Unit {0}
 NoneOver (line ∷ lines) = (line ≡ over → ⊥) × NoneOver lines
 
+-- none of these lines asks to stop
+abbrev pub NoneStops : Rules → List Line → Type 0
+NoneStops rules [] = Unit {0}
+NoneStops rules (line ∷ lines) = (stops_lines rules line ≡ false) × NoneStops rules lines
+
 -- of some lines all but the rest were answered, whatever comes after them
 pub record Answered (t : Terms) (s : State) (holds : State → Type 0) (lines rest : List Line) (count : ℕ) (before now : Option (List ℕ)) : Type 0 where
   pub taken : List Line
   pub parts : lines ≡ taken ++ rest
   pub counted : count ≡ length taken
   pub within : NoneOver taken
+  pub going : NoneStops t.rules taken
   pub state : State
   pub steps : List Step
   pub held : holds state
@@ -162,6 +232,7 @@ pub record Begun (t : Terms) (s next : State) (before now : Option (List ℕ)) :
 -- what serving all lines leaves, by why it stopped
 abbrev pub Serves : Terms → State → (State → Type 0) → List Line → Stop → ℕ → (Histories → Type 0) → Option (List ℕ) → Option (List ℕ) → Type 0
 Serves t s holds lines stop.End count left before now = Came t (whole t s lines) holds before now (served [] count)
+Serves t s holds lines stop.Asked count left before now = Came t (whole t s lines) holds before now (served [] (count + 1))
 Serves t s holds lines stop.Over count left before now = Ended t (whole t s lines) left before now end.Over
 Serves t s holds lines (stop.Fault f) count left before now = Faulted t (whole t s lines) f left before now
 Serves t s holds lines stop.Read count left before now = (rest : List Line) × Answered t s holds lines rest count before now

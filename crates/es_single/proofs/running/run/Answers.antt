@@ -1,4 +1,4 @@
-use Rattle.std.proofs.Common.{inr, ◌≡◌, ◌∙◌, ap, sym, subst, refl, Some, length, rules}
+use Rattle.std.proofs.Common.{inr, ◌≡◌, ◌+◌, ◌∙◌, ap, sym, subst, refl, Some, length, rules}
 use Rattle.es_io.specs.LinesLeft.{source_of}
 use Rattle.es_io.specs.Remains.{MayHold}
 use Rattle.es_io.proofs.RemainsLemmas.{some_held}
@@ -19,6 +19,9 @@ serve-stop-requires-clause-prompted g c = c.as_slice.ensures ∙ c.in-Ok.ensures
 
 pub counted-requires : goal.counted-requires
 counted-requires g c = record { distinct = subst AreDistinct (sym c.serve-stop.ensures.same.names) (only-apps c.args.sys.now _ c.args.pair.now c.requires.pair).distinct }
+
+pub counted-requires-in-Asked : goal.counted-requires-in-Asked
+counted-requires-in-Asked g c = record { distinct = subst AreDistinct (sym c.serve-stop.ensures.same.names) (only-apps c.args.sys.now _ c.args.pair.now c.requires.pair).distinct }
 
 pub returns-in_default-clause-traced : goal.returns-in_default-clause-traced
 returns-in_default-clause-traced g c =
@@ -44,6 +47,19 @@ returns-in-End-clause-traced g c =
     (λ n h. c.counted.ensures.holds openings n.histories (held-histories _ _ openings limits _ _ n h))
     (rw (made.lines_from x.0, c.in-End.is) at (x.4.0 openings limits (state_of openings x.1) held))
     (λ n h. subst (λ names. CountsTold (in_order (λ m. length (n.histories m)) names) c.serve-stop.result.1 c.counted.result) named (c.counted.ensures.counts openings n.histories (held-histories _ _ openings limits _ _ n h))))
+
+pub returns-in-Asked-clause-traced : goal.returns-in-Asked-clause-traced
+returns-in-Asked-clause-traced g c =
+    let made = c.in-Ok-new.ensures {u = tt} in
+    let b = c.into_source-source.ensures.left c.serve-stop.ensures.lines.ends in
+    let after = some_readings (g.C.Clock.readings c.serve-stop.new.clock) in
+    let x = c.serve-stop.ensures.served b.0 after.0 b.1 after.1 in
+    let named : _ ≡ app_names c.args.sys.now = c.serve-stop.ensures.same.names ∙ (only-apps c.args.sys.now _ c.args.pair.now c.requires.pair).named in
+    any_rest _ _ _ _ x.0 x.1 (made.remains x.0 x.2) x.3 (λ rest openings empty held.
+    end_runs c.args.sys.now openings x.1 x.0 _ _ (Some rest) (Holds g.R.AggregateRecorder.history g.R.AggregateRecorder.capacity openings limits c.serve-stop.new.apps (Some after.0)) (c.serve-stop.result.1 + 1) _ c.counted-in-Asked.result empty
+    (λ n h. c.counted-in-Asked.ensures.holds openings n.histories (held-histories _ _ openings limits _ _ n h))
+    (rw (made.lines_from x.0, c.in-Asked.is) at (x.4.0 openings limits (state_of openings x.1) held))
+    (λ n h. subst (λ names. CountsTold (in_order (λ m. length (n.histories m)) names) (c.serve-stop.result.1 + 1) c.counted-in-Asked.result) named (c.counted-in-Asked.ensures.counts openings n.histories (held-histories _ _ openings limits _ _ n h))))
 
 pub returns-in-Over-clause-traced : goal.returns-in-Over-clause-traced
 returns-in-Over-clause-traced g c =
@@ -93,6 +109,11 @@ returns-clause-traced g c =
 
 pub returns-in-End-clause-bound : goal.returns-in-End-clause-bound
 returns-in-End-clause-bound g c =
+    let made = c.in-Ok-new.ensures {u = tt} in
+    inr (took_lines _ _ _ _ _ _ (ap g.S.Source.left made.source) (search rules) made.bound c.serve-stop.ensures.lines.bound)
+
+pub returns-in-Asked-clause-bound : goal.returns-in-Asked-clause-bound
+returns-in-Asked-clause-bound g c =
     let made = c.in-Ok-new.ensures {u = tt} in
     inr (took_lines _ _ _ _ _ _ (ap g.S.Source.left made.source) (search rules) made.bound c.serve-stop.ensures.lines.bound)
 

@@ -50,3 +50,31 @@ returns-in-Unknown-clause-drained g c = λ after may.
 pub returns-in-Kind-clause-drained : goal.returns-in-Kind-clause-drained
 returns-in-Kind-clause-drained g c = λ after may.
     (after, may, λ base options s u held. not_drained (terms (rules_of c.args.sys.now) options) s _ c.args.prompted.now c.args.reply.now u (ap (λ r. prompted_by r c.args.prompted.now) c.in-Kind.is) held)
+
+pub returns-in-Got-clause-drained : goal.returns-in-Got-clause-drained
+returns-in-Got-clause-drained g c = λ after may.
+    (after, may, λ base options s u held. not_drained (terms (rules_of c.args.sys.now) options) s _ c.args.prompted.now c.args.reply.now u (ap (λ r. prompted_by r c.args.prompted.now) c.in-Got.is) held)
+
+pub returns-in-Log-clause-drained : goal.returns-in-Log-clause-drained
+returns-in-Log-clause-drained g c = λ after may.
+    (after, may, λ base options s u held. not_drained (terms (rules_of c.args.sys.now) options) s _ c.args.prompted.now c.args.reply.now u (ap (λ r. prompted_by r c.args.prompted.now) c.in-Log.is) held)
+
+pub returns-in-Tracking-clause-drained : goal.returns-in-Tracking-clause-drained
+returns-in-Tracking-clause-drained g c = λ after may.
+    (after, may, λ base options s u held. not_drained (terms (rules_of c.args.sys.now) options) s _ c.args.prompted.now c.args.reply.now u (ap (λ r. prompted_by r c.args.prompted.now) c.in-Tracking.is) held)
+
+pub returns-in-Sync-clause-drained : goal.returns-in-Sync-clause-drained
+returns-in-Sync-clause-drained g c = λ after may.
+    (after, may, λ base options s u held. not_drained (terms (rules_of c.args.sys.now) options) s _ c.args.prompted.now c.args.reply.now u (ap (λ r. prompted_by r c.args.prompted.now) c.in-Sync.is) held)
+
+pub returns-in-Stop-clause-drained : goal.returns-in-Stop-clause-drained
+returns-in-Stop-clause-drained g c = λ after may.
+    (after, may, λ base options s u held. not_drained (terms (rules_of c.args.sys.now) options) s _ c.args.prompted.now c.args.reply.now u (ap (λ r. prompted_by r c.args.prompted.now) c.in-Stop.is) held)
+
+pub returns-in-NotFound-clause-drained : goal.returns-in-NotFound-clause-drained
+returns-in-NotFound-clause-drained g c = λ after may.
+    (after, may, λ base options s u held. not_drained (terms (rules_of c.args.sys.now) options) s _ c.args.prompted.now c.args.reply.now u (ap (λ r. prompted_by r c.args.prompted.now) c.in-NotFound.is) held)
+
+pub returns-in-Section-clause-drained : goal.returns-in-Section-clause-drained
+returns-in-Section-clause-drained g c = λ after may.
+    (after, may, λ base options s u held. not_drained (terms (rules_of c.args.sys.now) options) s _ c.args.prompted.now c.args.reply.now u (ap (λ r. prompted_by r c.args.prompted.now) c.in-Section.is) held)

@@ -1,6 +1,6 @@
 use Rattle.std.proofs.Common.{refl, Some, IfErr, subst, inl, inr}
 use Rattle.es_single.specs.declared.serve.Stop.TheVariants as stop
-use Rattle.es_single.specs.inner.Serves.{IsAnswering, IsSaying}
+use Rattle.es_single.specs.inner.Serves.{MayStop, IsSaying}
 use Rattle.es_model.specs.Lines.{text, long, lines_of}
 use Rattle.es_lines.specs.declared.replies.Reply.TheVariants.{Long}
 use Rattle.es_io.specs.LinesLeft.{has_ended}
@@ -10,7 +10,7 @@ use Rattle.es_process.specs.Terms.{terms}
 use Rattle.es_process.specs.Standing.{Holds, HoldHistories}
 use Rattle.es_process.proofs.HoldsLemmas.{held-histories}
 use Rattle.es_single.specs.inner.Taken.{UsesSome}
-use Rattle.es_single.proofs.ServesLemmas.{said_only, too_long}
+use Rattle.es_single.proofs.ServesLemmas.{said_only, too_long, tells_going, saying_answers}
 use Rattle.es_single.proofs.LoopLemmas.{turned}
 use Rattle.es_single.proofs.TakenLemmas.{on_ok, some_bytes}
 use Rattle.es_single.proofs.serve.turn.Goals as goal
@@ -30,9 +30,9 @@ returns-in-Ok-Line-clause-turned g c = λ b after left may.
       z.may,
       x.1,
       (
-        λ base options s held. turned (terms (rules_of c.args.sys.now) options) s _ (lines_from c.args.lines.now z.before) (lines_from c.next.new.self b) (text c.in-Ok-Line.line) _ _ _ c.answer_line.result (λ is. absurd (cc is)) z.first (rw c.as_slice.ensures at (x.2 base options s held)),
+        λ base options s held. turned (terms (rules_of c.args.sys.now) options) s _ (lines_from c.args.lines.now z.before) (lines_from c.next.new.self b) (text c.in-Ok-Line.line) _ _ _ c.answer_line.result (λ is. absurd (cc is)) z.first (rw c.as_slice.ensures at c.answer_line.ensures.tells) (rw c.as_slice.ensures at (x.2 base options s held)),
         on_ok c.answer_line.result used,
-        λ is. absurd (subst (λ r. IfErr r IsAnswering) is c.answer_line.ensures.stops),
+        λ is. absurd (subst (λ r. IfErr r MayStop) is c.answer_line.ensures.stops),
       ),
     )
 
@@ -47,7 +47,7 @@ returns-in-Ok-Long-clause-turned g c = λ b after left may.
       may,
       (
         λ base options s held.
-            turned (terms (rules_of c.args.sys.now) options) s _ (lines_from c.args.lines.now z.before) (lines_from c.next.new.self b) long _ _ _ c.say.result (λ is. absurd (cc is)) z.first
+            turned (terms (rules_of c.args.sys.now) options) s _ (lines_from c.args.lines.now z.before) (lines_from c.next.new.self b) long _ _ _ c.say.result (λ is. absurd (cc is)) z.first (tells_going (rules_of c.args.sys.now) long c.say.result refl (saying_answers c.say.result c.say.ensures.stops))
             (said_only (terms (rules_of c.args.sys.now) options) s (Holds g.R.AggregateRecorder.history g.R.AggregateRecorder.capacity base options c.args.apps.now (Some after)) (HoldHistories g.R.AggregateRecorder.history base c.args.apps.now) long Long _ _ c.say.result refl (too_long (terms (rules_of c.args.sys.now) options) s) c.say.ensures.said held (held-histories _ _ base options _ _ s held)),
         on_ok c.say.result used,
         λ is. not_said (subst (λ r. IfErr r IsSaying) is c.say.ensures.stops),

@@ -1,4 +1,4 @@
-use Rattle.std.proofs.Common.{inr, inl, ◌≡◌, ◌⊎◌, ◌∙◌, pos, ℕ, List, [], Some, Ok, refl, sym, subst, ap, Err}
+use Rattle.std.proofs.Common.{rules, inr, inl, ◌≡◌, ◌⊎◌, ◌∙◌, pos, ℕ, List, [], Some, Ok, refl, sym, subst, ap, Err}
 use Rattle.es_model.specs.Causes.{Rose}
 use Rattle.es_model.specs.declared.declaration.System.{System}
 use Rattle.es_model.specs.History.{Histories}
@@ -9,12 +9,12 @@ use Rattle.es_single.specs.Limits.{limits}
 use Rattle.es_single.specs.Traced.{OfInput}
 use Rattle.es_single.proofs.TakenLemmas.{took_nothing}
 use Rattle.es_lines.specs.declared.ends.End.TheVariants as end
-use Rattle.es_top.specs.Declares.{declares}
+use Rattle.es_top.specs.Declares.{IsEndUnasked, declares}
 use Rattle.es_top.specs.Ends.{Sort, itself, stopped, unbuilt, end_of_load, ended, sorted, Writes}
 use Rattle.es_top.specs.Opened.{IsBuilt, IsNotBuilt}
 use Rattle.es_top.specs.Top.{IfTold, Ran}
-use Rattle.es_top.proofs.EndLemmas.{early_front, load_early, of_sort, ran_consistent, ran_weaker, usage_front, writes_so}
-use Rattle.es_top.proofs.DeclaresLemmas.{asked, fault_ran, load_sort, loaded_same, refused_so}
+use Rattle.es_top.proofs.EndLemmas.{early_front, of_sort, ran_consistent, ran_weaker, usage_front, writes_so}
+use Rattle.es_top.proofs.DeclaresLemmas.{asked, fault_ran, fault_unasked, load_sort, loaded_same, refused_so}
 use Rattle.es_top.proofs.TopLemmas.{of_input, of_then}
 use Rattle.es_top.proofs.top.evsys_single.Given as given
 use Rattle.es_top.proofs.top.evsys_single.Goals as goal
@@ -99,10 +99,10 @@ pub returns-in-Ok-clause-not_run_front : goal.returns-in-Ok-clause-not_run_front
 returns-in-Ok-clause-not_run_front g c = λ unasked told. asked (g.D.Source.documents c.args.system.now) c.args.words.now c.in-Some.name.now (sym (c.in-Some.ensures {u = tt})) c.in-Ok.sys (c.in-Ok.ensures {u = tt}).loads unasked
 
 pub returns-in-Err-clause-not_run_front : goal.returns-in-Err-clause-not_run_front
-returns-in-Err-clause-not_run_front g c = λ unasked told. early_front (end_of_load c.in-Err.fault) c.end_unloaded.result (g.T.Sink.written c.args.out.now) (g.T.Sink.written c.end_unloaded.new.out) (load_early c.in-Err.fault) (line_told g c) told
+returns-in-Err-clause-not_run_front g c = λ unasked told. early_front (IsEndUnasked (g.D.Source.documents c.args.system.now) c.args.words.now (Rose (g.D.Source.faults c.args.system.now) (g.D.Source.faults c.load.new.system))) (end_of_load c.in-Err.fault) c.end_unloaded.result (g.T.Sink.written c.args.out.now) (g.T.Sink.written c.end_unloaded.new.out) (fault_unasked (g.D.Source.documents c.args.system.now) c.args.words.now c.in-Some.name.now (sym (c.in-Some.ensures {u = tt})) (Rose (g.D.Source.faults c.args.system.now) (g.D.Source.faults c.load.new.system)) c.in-Err.fault (λ same. (c.in-Err.ensures {u = tt}).failed (ap Err same)) (c.in-Err.ensures {u = tt}).loads) tt (line_told g c) told
 
 pub returns-in_default-clause-not_run_front : goal.returns-in_default-clause-not_run_front
-returns-in_default-clause-not_run_front g c = λ unasked told. (end.Usage, inl refl, usage_front c.end_usage.result (g.T.Sink.written c.args.out.now) (g.T.Sink.written c.end_usage.new.out) c.end_usage.ensures.told told)
+returns-in_default-clause-not_run_front g c = λ unasked told. (end.Usage, search rules, usage_front c.end_usage.result (g.T.Sink.written c.args.out.now) (g.T.Sink.written c.end_usage.new.out) c.end_usage.ensures.told told)
 
 pub returns-in_default-clause-usage_front : goal.returns-in_default-clause-usage_front
 returns-in_default-clause-usage_front g c = λ told unasked. usage_front c.end_usage.result (g.T.Sink.written c.args.out.now) (g.T.Sink.written c.end_usage.new.out) c.end_usage.ensures.told told

@@ -1,0 +1,8 @@
+use Rattle.std.proofs.Common.{refl}
+use Rattle.es_lines.specs.Texts.{reply_tree}
+use Rattle.es_lines.specs.declared.replies.Reply.TheVariants as reply
+use Rattle.es_lines.proofs.ObjectLemmas.{both, text, whole}
+use Rattle.es_lines.proofs.replies.refused_text.Goals as goal
+
+pub returns : goal.returns
+returns c = whole c.ended.result (reply_tree (reply.Refused c.args.code.now)) c.in_ok-out.ensures (both (text c.as_str.ensures c.in_ok-put_text.ensures) c.in_ok-put_text-2.ensures) refl c.ended.ensures
