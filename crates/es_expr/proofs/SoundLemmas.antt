@@ -15,7 +15,8 @@ use Rattle.es_model.specs.declared.value.Kind.{Kind}
 use Rattle.es_model.specs.declared.value.Kind.TheVariants as of
 use Rattle.es_model.specs.declared.value.Value.{Value}
 use Rattle.es_model.specs.declared.value.Value.TheVariants.{One, List as Many}
-use Rattle.es_expr.specs.Kinds.{Env, Judged, is_same_atom_kind, is_same_kind, kind_of, kind_of_choice, kind_of_one, kind_of_two, known, literal_kind, operand, operand_path, takes, follows, gives, unary_takes, unary_gives, unary_word, word, step as kind_step}
+use Rattle.es_model.specs.OperatorWords.{unary_word, binary_word, choice_word}
+use Rattle.es_expr.specs.Kinds.{Env, Judged, is_same_atom_kind, is_same_kind, kind_of, kind_of_choice, kind_of_one, kind_of_two, known, literal_kind, operand, operand_path, takes, follows, gives, unary_takes, unary_gives, step as kind_step}
 use Rattle.es_expr.specs.Meaning.{choose, den, found, of_choice, of_one, of_two, step, unless}
 use Rattle.es_expr.specs.Operators.{appended, apply, apply_one, contained, conjunction, decided, derived, difference, disjunction, joined, less, at_most, negation, product, shown, size, sum}
 use Rattle.es_expr.specs.Outcome.{Outcome, bind, is, is_in_i64, is_within, over, stuck, within}
@@ -255,9 +256,9 @@ two_sound : (op : Binary) (a b : Judged) (ma mb : Outcome) → Agrees a ma → A
 two_sound op a b ma mb g h =
     let m : Outcome = of_two op ma mb in
     let right : Kind → Kind → Judged = λ k l. Ok (gives op k) in
-    let rest : Kind → Judged = λ k. operand (operand_path (word op) (codes "1")) (follows op k) b (right k) in
-    operand_sound (operand_path (word op) (codes "0")) (takes op) a ma rest m g
-    (λ k t p. operand_sound (operand_path (word op) (codes "1")) (follows op k) b mb (right k) m h (λ l s q. both op k l ma mb t s p q))
+    let rest : Kind → Judged = λ k. operand (operand_path (binary_word op) (codes "1")) (follows op k) b (right k) in
+    operand_sound (operand_path (binary_word op) (codes "0")) (takes op) a ma rest m g
+    (λ k t p. operand_sound (operand_path (binary_word op) (codes "1")) (follows op k) b mb (right k) m h (λ l s q. both op k l ma mb t s p q))
 
 chosen : (l m : Kind) (ma mb mc : Outcome) → l ≡ m → HasKind BOOL ma → HasKind l mb → HasKind m mc → HasKind m (of_choice ma mb mc)
 chosen l m (is v) mb mc e p q r = of_bool (λ v. HasKind m (choose mb mc v)) (picks l m mb mc e q r) v p
@@ -271,11 +272,11 @@ chosen l m stuck mb mc e p q r = absurd p
 choice_sound : (a b c : Judged) (ma mb mc : Outcome) → Agrees a ma → Agrees b mb → Agrees c mc → Agrees (kind_of_choice a b c) (of_choice ma mb mc)
 choice_sound a b c ma mb mc f g h =
     let m : Outcome = of_choice ma mb mc in
-    let third : Kind → Judged = λ l. operand (operand_path (codes "if") (codes "2")) (is_same_kind l) c Ok in
-    let second : Kind → Judged = λ k. operand (operand_path (codes "if") (codes "1")) (λ l. true) b third in
-    operand_sound (operand_path (codes "if") (codes "0")) (is_same_kind BOOL) a ma second m f (λ k t p.
-    operand_sound (operand_path (codes "if") (codes "1")) (λ l. true) b mb third m g (λ l _ q.
-    operand_sound (operand_path (codes "if") (codes "2")) (is_same_kind l) c mc Ok m h (λ n s r.
+    let third : Kind → Judged = λ l. operand (operand_path choice_word (codes "2")) (is_same_kind l) c Ok in
+    let second : Kind → Judged = λ k. operand (operand_path choice_word (codes "1")) (λ l. true) b third in
+    operand_sound (operand_path choice_word (codes "0")) (is_same_kind BOOL) a ma second m f (λ k t p.
+    operand_sound (operand_path choice_word (codes "1")) (λ l. true) b mb third m g (λ l _ q.
+    operand_sound (operand_path choice_word (codes "2")) (is_same_kind l) c mc Ok m h (λ n s r.
     chosen l n ma mb mc (same_kind l n s) (subst (λ k. HasKind k ma) (sym (same_kind BOOL k t)) p) q r)))
 
 literal_sound : (a : Atom) → Agrees (known (literal_kind a)) (within (One a))

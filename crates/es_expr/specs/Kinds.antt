@@ -13,6 +13,7 @@ use Rattle.es_model.specs.declared.value.Kind.TheVariants.{One, List as Many}
 use Rattle.es_expr.specs.Shapes.{Shape, literal, empty, named, one, two, choice, shape}
 use Rattle.es_expr.specs.declared.fault.ExprFault.{ExprFault}
 use Rattle.es_expr.specs.declared.fault.ExprFault.TheVariants.{Unknown, Kind as Wrong, NoMemory}
+use Rattle.es_model.specs.OperatorWords.{unary_word, binary_word, choice_word}
 use Rattle.es_model.specs.declared.operators.Binary.{Binary}
 use Rattle.es_model.specs.declared.operators.Binary.TheVariants.{Add, Sub, Mul, Eq, Ne, Lt, Le, And, Or, Concat, Append, Contains, Uuid5}
 use Rattle.es_model.specs.declared.operators.Unary.{Unary}
@@ -33,26 +34,6 @@ is_same_kind (Many a) (Many b) = is_same_atom_kind a b
 is_same_kind _ _ = false
 
 -- ---- the table of the operators
-
-abbrev pub word : Binary → List ℕ
-word Add = codes "add"
-word Sub = codes "sub"
-word Mul = codes "mul"
-word Eq = codes "eq"
-word Ne = codes "ne"
-word Lt = codes "lt"
-word Le = codes "le"
-word And = codes "and"
-word Or = codes "or"
-word Concat = codes "concat"
-word Append = codes "append"
-word Contains = codes "contains"
-word Uuid5 = codes "uuid5"
-
-abbrev pub unary_word : Unary → List ℕ
-unary_word Not = codes "not"
-unary_word Len = codes "len"
-unary_word Show = codes "show"
 
 -- the kinds of the left operand
 abbrev pub takes : Binary → Kind → Bool
@@ -156,14 +137,14 @@ kind_of_one op a = operand (operand_path (unary_word op) (codes "0")) (unary_tak
 
 abbrev pub kind_of_two : Binary → Judged → Judged → Judged
 kind_of_two op a b =
-    operand (operand_path (word op) (codes "0")) (takes op) a (λ k.
-    operand (operand_path (word op) (codes "1")) (follows op k) b (λ l. Ok (gives op k)))
+    operand (operand_path (binary_word op) (codes "0")) (takes op) a (λ k.
+    operand (operand_path (binary_word op) (codes "1")) (follows op k) b (λ l. Ok (gives op k)))
 
 abbrev pub kind_of_choice : Judged → Judged → Judged → Judged
 kind_of_choice a b c =
-    operand (operand_path (codes "if") (codes "0")) (is_same_kind (One kind.Bool)) a (λ k.
-    operand (operand_path (codes "if") (codes "1")) (λ l. true) b (λ l.
-    operand (operand_path (codes "if") (codes "2")) (is_same_kind l) c Ok))
+    operand (operand_path choice_word (codes "0")) (is_same_kind (One kind.Bool)) a (λ k.
+    operand (operand_path choice_word (codes "1")) (λ l. true) b (λ l.
+    operand (operand_path choice_word (codes "2")) (is_same_kind l) c Ok))
 
 abbrev pub Env : Type 0
 Env = List (Name × Kind)

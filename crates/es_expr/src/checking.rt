@@ -4,7 +4,7 @@ ghost use Rattle.es_model.specs.Rising.{item_of};
 ghost use Rattle.es_expr.specs.declared.fault.ExprFault.TheVariants.{Kind as Wrong, Unknown};
 
 use crate::ExprFault;
-use crate::kinds::{follows, gives, is_same, takes, unary_gives, unary_takes, unary_word, word};
+use crate::kinds::{follows, gives, is_same, takes, unary_gives, unary_takes};
 use crate::shape::by_shape;
 use es_model::operators::{Binary, Unary};
 use es_model::{AtomKind, Expr, Kind, Kinds, NoMemory, Text};
@@ -65,9 +65,9 @@ fn operand(
 fn one(alloc: Global, op: Unary, a: &Expr, env: &Kinds) -> Result<Kind, ExprFault>
     ensures { Judges (kind_of_one op (kind_of a.now env.now)) result }
 {
-    let kind = operand(alloc, a, env, unary_word(op), "0")?;
+    let kind = operand(alloc, a, env, op.word(), "0")?;
     if !unary_takes(op, kind) {
-        return wrong(alloc, unary_word(op), "0");
+        return wrong(alloc, op.word(), "0");
     }
     Ok(unary_gives(op))
 }
@@ -76,13 +76,13 @@ fn one(alloc: Global, op: Unary, a: &Expr, env: &Kinds) -> Result<Kind, ExprFaul
 fn two(alloc: Global, op: Binary, a: &Expr, b: &Expr, env: &Kinds) -> Result<Kind, ExprFault>
     ensures { Judges (kind_of_two op (kind_of a.now env.now) (kind_of b.now env.now)) result }
 {
-    let left = operand(alloc, a, env, word(op), "0")?;
+    let left = operand(alloc, a, env, op.word(), "0")?;
     if !takes(op, left) {
-        return wrong(alloc, word(op), "0");
+        return wrong(alloc, op.word(), "0");
     }
-    let right = operand(alloc, b, env, word(op), "1")?;
+    let right = operand(alloc, b, env, op.word(), "1")?;
     if !follows(op, left, right) {
-        return wrong(alloc, word(op), "1");
+        return wrong(alloc, op.word(), "1");
     }
     Ok(gives(op, left))
 }

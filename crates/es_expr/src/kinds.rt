@@ -29,17 +29,6 @@ pub(crate) fn is_same(a: Kind, b: Kind) -> bool
     }
 }
 
-/// The word of an operator over one operand.
-pub(crate) fn unary_word(op: Unary) -> &'static str
-    ensures { result.now ≡ spec.unary_word op }
-{
-    match op {
-        Unary::Not => "not",
-        Unary::Len => "len",
-        Unary::Show => "show",
-    }
-}
-
 /// Whether the operand of an operator may be of a kind.
 pub(crate) fn unary_takes(op: Unary, kind: Kind) -> bool
     ensures { result ≡ spec.unary_takes op kind }
@@ -60,27 +49,6 @@ pub(crate) fn unary_gives(op: Unary) -> Kind
         Unary::Not => Kind::One(AtomKind::Bool),
         Unary::Len => Kind::One(AtomKind::Int),
         Unary::Show => Kind::One(AtomKind::Text),
-    }
-}
-
-/// The word of an operator over two operands.
-pub(crate) fn word(op: Binary) -> &'static str
-    ensures { result.now ≡ spec.word op }
-{
-    match op {
-        Binary::Add => "add",
-        Binary::Sub => "sub",
-        Binary::Mul => "mul",
-        Binary::Eq => "eq",
-        Binary::Ne => "ne",
-        Binary::Lt => "lt",
-        Binary::Le => "le",
-        Binary::And => "and",
-        Binary::Or => "or",
-        Binary::Concat => "concat",
-        Binary::Append => "append",
-        Binary::Contains => "contains",
-        Binary::Uuid5 => "uuid5",
     }
 }
 

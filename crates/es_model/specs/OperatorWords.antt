@@ -11,23 +11,55 @@ use Rattle.es_model.specs.declared.operators.Binary.TheVariants.{Add, Sub, Mul, 
 use Rattle.es_model.specs.declared.operators.Operator.{Operator}
 use Rattle.es_model.specs.declared.operators.Operator.TheVariants.{One, Two, Choice}
 
--- the word of each operator
-abbrev pub words : List (Name × Operator)
-words =
-    (codes "not", One Not) ∷ (codes "len", One Len) ∷ (codes "show", One Show)
-    ∷ (codes "add", Two Add) ∷ (codes "sub", Two Sub) ∷ (codes "mul", Two Mul)
-    ∷ (codes "eq", Two Eq) ∷ (codes "ne", Two Ne) ∷ (codes "lt", Two Lt) ∷ (codes "le", Two Le)
-    ∷ (codes "and", Two And) ∷ (codes "or", Two Or)
-    ∷ (codes "concat", Two Concat) ∷ (codes "append", Two Append) ∷ (codes "contains", Two Contains) ∷ (codes "uuid5", Two Uuid5)
-    ∷ (codes "if", Choice) ∷ []
+-- the word of an operator over one operand
+abbrev pub unary_word : Unary → Name
+unary_word Not = codes "not"
+unary_word Len = codes "len"
+unary_word Show = codes "show"
 
-abbrev pub among : List (Name × Operator) → Name → Option Operator
+-- the word of an operator over two operands
+abbrev pub binary_word : Binary → Name
+binary_word Add = codes "add"
+binary_word Sub = codes "sub"
+binary_word Mul = codes "mul"
+binary_word Eq = codes "eq"
+binary_word Ne = codes "ne"
+binary_word Lt = codes "lt"
+binary_word Le = codes "le"
+binary_word And = codes "and"
+binary_word Or = codes "or"
+binary_word Concat = codes "concat"
+binary_word Append = codes "append"
+binary_word Contains = codes "contains"
+binary_word Uuid5 = codes "uuid5"
+
+-- the word of a choice
+abbrev pub choice_word : Name
+choice_word = codes "if"
+
+-- the word of each operator
+abbrev pub word_of : Operator → Name
+word_of (One op) = unary_word op
+word_of (Two op) = binary_word op
+word_of Choice = choice_word
+
+abbrev pub operators : List Operator
+operators =
+    One Not ∷ One Len ∷ One Show
+    ∷ Two Add ∷ Two Sub ∷ Two Mul
+    ∷ Two Eq ∷ Two Ne ∷ Two Lt ∷ Two Le
+    ∷ Two And ∷ Two Or
+    ∷ Two Concat ∷ Two Append ∷ Two Contains ∷ Two Uuid5
+    ∷ Choice ∷ []
+
+-- the first operator of a list that has a word
+abbrev pub among : List Operator → Name → Option Operator
 among [] word = None
-among (x ∷ xs) word = if bytes_eq word x.0 then Some x.1 else among xs word
+among (x ∷ xs) word = if bytes_eq word (word_of x) then Some x else among xs word
 
 -- the operator that a word stands for
 abbrev pub operator_of : Name → Option Operator
-operator_of word = among words word
+operator_of word = among operators word
 
 -- an operator over its operand
 abbrev pub over_one : Unary → Expr → Expr

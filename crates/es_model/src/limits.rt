@@ -76,6 +76,15 @@ pub const MOST_INTERVAL: u64 = 1_000_000;
 /// The most notifications of a section.
 pub const MOST_SECTION: u64 = 1000;
 
+/// The most notifications of a section of an application that doesn't declare how many.
+pub const DEFAULT_SECTION: u64 = 10;
+
+/// The greatest id that a section may be asked for.
+pub const MOST_ASKED: u64 = 1_099_511_627_776;
+
+/// The most digits of an id that a section is asked for.
+pub const MOST_DIGITS: usize = 13;
+
 /// The turns of a run that isn't told how many it may take.
 pub const DEFAULT_TURNS: u64 = 1_000_000;
 

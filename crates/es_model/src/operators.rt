@@ -1,5 +1,6 @@
 //! The operators of expressions, and the words that declarations have for them.
 ghost use Rattle.std.specs.Prelude.{◌≡◌};
+ghost use Rattle.es_model.specs.OperatorWords as spec;
 ghost use Rattle.es_model.specs.OperatorWords.{operator_of, over_one, over_two};
 
 use crate::{Boxed, Expr};
@@ -68,6 +69,17 @@ impl Operator {
 }
 
 impl Unary {
+    /// The word of this operator.
+    pub fn word(self) -> &'static str
+        ensures { result.now ≡ spec.unary_word self }
+    {
+        match self {
+            Unary::Not => "not",
+            Unary::Len => "len",
+            Unary::Show => "show",
+        }
+    }
+
     /// The expression of this operator over its operand.
     pub fn over(self, a: Boxed<Expr>) -> Expr
         ensures { result ≡ over_one self a }
@@ -81,6 +93,27 @@ impl Unary {
 }
 
 impl Binary {
+    /// The word of this operator.
+    pub fn word(self) -> &'static str
+        ensures { result.now ≡ spec.binary_word self }
+    {
+        match self {
+            Binary::Add => "add",
+            Binary::Sub => "sub",
+            Binary::Mul => "mul",
+            Binary::Eq => "eq",
+            Binary::Ne => "ne",
+            Binary::Lt => "lt",
+            Binary::Le => "le",
+            Binary::And => "and",
+            Binary::Or => "or",
+            Binary::Concat => "concat",
+            Binary::Append => "append",
+            Binary::Contains => "contains",
+            Binary::Uuid5 => "uuid5",
+        }
+    }
+
     /// The expression of this operator over its operands.
     pub fn over(self, a: Boxed<Expr>, b: Boxed<Expr>) -> Expr
         ensures { result ≡ over_two self a b }

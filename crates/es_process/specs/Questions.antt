@@ -14,7 +14,7 @@ use Rattle.es_section.specs.Answers.{section_asked}
 use Rattle.es_section.specs.declared.answer.Section.{Section as SectionOf}
 use Rattle.es_lines.specs.declared.replies.Reply.{Reply}
 use Rattle.es_lines.specs.declared.replies.Reply.TheVariants.{Got, Log, Tracking, NotFound, Section, Unreadable}
-use Rattle.es_process.specs.declared.questions.TheConstants.{DEFAULT_SECTION}
+use Rattle.es_model.specs.declared.limits.TheConstants.{DEFAULT_SECTION}
 
 -- what is read of an aggregate, as a reply
 abbrev pub reply_read : Name → Reading → Reply

@@ -8,15 +8,13 @@ ghost use Rattle.es_process.specs.Standing.{IsSame, MayFailToRead};
 use crate::Application;
 use crate::faults::RunFault;
 use es_lines::Reply;
+use es_model::limits::DEFAULT_SECTION;
 use es_model::{Duplicate, System, Text};
 use es_recorder::ProcessRecorder;
 use es_repo::{RepoFault, Repository};
 use es_section::{Section, SectionFault, section};
 use std::alloc::Global;
 use uuid::Uuid;
-
-/// The most notifications of a section of an application that doesn't declare how many.
-pub const DEFAULT_SECTION: u64 = 10;
 
 // How many notifications a section of an application's log has at most.
 fn section_size(sys: &System, app: &Text) -> u64

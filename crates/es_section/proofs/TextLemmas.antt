@@ -11,7 +11,7 @@ use Rattle.std.specs.List.{list_all, position_or_len}
 use Rattle.std.specs.Option.{option_zip}
 use Rattle.std.specs.Str.Parse.{digits_value}
 use Rattle.es_section.specs.Section.{is_number, number_of, is_comma, bounds_of, text_of}
-use Rattle.es_section.specs.declared.request.TheConstants.{MOST_ASKED, MOST_DIGITS}
+use Rattle.es_model.specs.declared.limits.TheConstants.{MOST_ASKED, MOST_DIGITS}
 
 -- ---- the digits of a number are a number
 

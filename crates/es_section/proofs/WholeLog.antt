@@ -10,7 +10,7 @@ use Rattle.es_recorder.specs.Selections.{numbered_from, notifications}
 use Rattle.es_recorder.proofs.SelectionLemmas.{notification, select-drop}
 use Rattle.es_section.specs.Answers.{section_with, section_of, section_asked, rest_after, with_rest, all_from}
 use Rattle.es_section.specs.Section.{text_of, start_of, limit_of, items_of, last_of, next_of}
-use Rattle.es_section.specs.declared.request.TheConstants.{MOST_ASKED}
+use Rattle.es_model.specs.declared.limits.TheConstants.{MOST_ASKED}
 use Rattle.es_section.proofs.TextLemmas.{bounds-text}
 
 -- ---- numbered events

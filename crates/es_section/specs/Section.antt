@@ -6,7 +6,7 @@ use Rattle.std.specs.List.{list_all, before_first, after_first}
 use Rattle.std.specs.Option.{option_zip}
 use Rattle.std.specs.Str.Parse.{digits_value}
 use Rattle.es_model.specs.declared.event.Notification.{Notification}
-use Rattle.es_section.specs.declared.request.TheConstants.{MOST_ASKED, MOST_DIGITS}
+use Rattle.es_model.specs.declared.limits.TheConstants.{MOST_ASKED, MOST_DIGITS}
 
 -- ---- what a text asks for
 

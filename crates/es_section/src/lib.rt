@@ -10,5 +10,4 @@ mod request;
 mod sections;
 
 pub use answer::{Section, SectionFault};
-pub use request::{MOST_ASKED, MOST_DIGITS};
 pub use sections::section;

@@ -3,12 +3,9 @@ ghost use Rattle.std.specs.Char.{is_ascii_digit};
 ghost use Rattle.std.specs.List.{list_all};
 ghost use Rattle.std.specs.Str.Parse.{digits_value};
 ghost use Rattle.es_section.specs.Section.{number_of, bounds_of};
+ghost use Rattle.es_model.specs.declared.limits.TheConstants.{MOST_ASKED};
 
-/// The greatest id that may be asked for.
-pub const MOST_ASKED: u64 = 1_099_511_627_776;
-
-/// The most digits of an id that is asked for.
-pub const MOST_DIGITS: usize = 13;
+use es_model::limits::{MOST_ASKED, MOST_DIGITS};
 
 fn are_digits(text: &str) -> bool
     ensures { result ≡ list_all is_ascii_digit text.now }

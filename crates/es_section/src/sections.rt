@@ -44,7 +44,7 @@ fn section_with(limit: u64, items: Notifications) -> Section
 }
 
 /// The section of at most `size` notifications that a text asks for. The text is two numbers with a comma between
-/// them, the first and the last id, each of at most thirteen digits and at most `MOST_ASKED`.
+/// them, the first and the last id, each of at most thirteen digits and at most `es_model::limits::MOST_ASKED`.
 pub fn section<R: ApplicationRecorder>(
     recorder: &mut R,
     request: &Text,
