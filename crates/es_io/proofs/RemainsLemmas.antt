@@ -1,11 +1,10 @@
 -- The bytes that may be left.
-use Rattle.std.proofs.Common.{◌≡◌, ℕ, ◌+◌, ◌-◌, Bool, true, false, List, [], ◌++◌, take, drop, Option, Some, None, Result, Ok, Err, OnErr, refl, sym, ap, ◌∙◌, arith}
+use Rattle.std.proofs.Common.{◌≡◌, ℕ, Bool, true, false, List, [], ◌++◌, take, drop, Option, Some, None, Result, Ok, Err, OnErr, refl, sym, ap, ◌∙◌, arith}
 use Rattle.std.proofs.lemmas.List.{drop_all, length-take}
 use Rattle.std.specs.Io.KnownBytes.{Consumes, Keeps, IsAtEnd}
 use Rattle.std.specs.Io.KnownBytes.{prepend_known}
 use Rattle.es_io.specs.Remains.{MayHold, MayRemain, MayHaveLeft, ahead_of}
 use Rattle.es_io.specs.LinesLeft.{EndsRightly}
-use Rattle.es_io.specs.Ahead.{unread}
 use Rattle.es_io.specs.declared.lines.Ahead.{Ahead}
 use Rattle.es_io.specs.declared.lines.Lines.{Lines}
 

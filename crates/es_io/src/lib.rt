@@ -11,6 +11,6 @@ mod memory;
 mod outside;
 
 pub use adapters::{FileDocument, StdSink, StdSource, SystemClock};
-pub use lines::{Lines, LinesFault, Step};
+pub use lines::{Lines, LinesFault, Piece, Step};
 pub use memory::{Documents, ListClock, MemoryDocument, MemorySink, MemorySource};
 pub use outside::{Clock, Document, Sink, Source, write_all};

@@ -22,6 +22,22 @@ fn read_at_most<S: Source>(source: &mut S, piece: &mut [u8], most: usize) -> Res
     source.read(&mut piece[..room])
 }
 
+/// The memory that holds what is read ahead of a source. It is made before a source is lent, so that no call that was lent one fails for
+/// want of it.
+#[derive(Drop)]
+pub struct Piece {
+    bytes: Vec<u8>,
+    ghost some: { 0 < length bytes.items },
+}
+
+impl Piece {
+    /// Memory for one piece of a source.
+    pub fn new(alloc: Global) -> Result<Piece, NoMemory> {
+        let bytes = vec![in alloc; 0; PIECE]?;
+        Ok(Piece { bytes })
+    }
+}
+
 // What was read ahead of a source.
 #[derive(Drop)]
 struct Ahead<'a, S> {
@@ -38,20 +54,20 @@ impl<'a, S: Source> Ahead<'a, S> {
     ghost use Rattle.es_io.specs.Ahead.{unread};
     ghost use Rattle.es_io.specs.Remains.{MayHold, MayRemain};
 
-    fn new(alloc: Global, source: &'a mut S) -> Result<Ahead<'a, S>, NoMemory>
-        ensures same_reference { IfOk result (λ a. a.source.ghost_name ≡ source.entry.ghost_name) }
-        ensures source { IfOk result (λ a. a.source.now ≡ source.old) }
-        ensures unread { IfOk result (λ a. unread S.left a ≡ S.left source.old) }
-        ensures empty { IfOk result (λ a. a.start ≡ a.end) }
-        ensures remains { IfOk result (λ a. (b : List ℕ) → MayRemain S.left a b → MayHold (S.left source.old) b) }
+    fn new(piece: Piece, source: &'a mut S) -> Ahead<'a, S>
+        ensures same_reference { result.source.ghost_name ≡ source.entry.ghost_name }
+        ensures source { result.source.now ≡ source.old }
+        ensures unread { unread S.left result ≡ S.left source.old }
+        ensures empty { result.start ≡ result.end }
+        ensures remains { (b : List ℕ) → MayRemain S.left result b → MayHold (S.left source.old) b }
     {
-        let piece = vec![in alloc; 0; PIECE]?;
-        Ok(Ahead {
+        let Piece { bytes } = piece;
+        Ahead {
             source,
-            piece,
+            piece: bytes,
             start: 0,
             end: 0,
-        })
+        }
     }
 
     // Takes the next piece, of at most so many bytes, where the last one is used up. `false` only at the end.
@@ -154,33 +170,34 @@ impl<'a, S: Source> Lines<'a, S> {
     ghost use Rattle.es_model.specs.Lines.{lines_of};
     ghost use Rattle.std.specs.Option.{option_map};
 
-    /// The lines of a source. A line may have `line_limit` bytes, its line feed not counted, and all
+    /// The lines of a source, read ahead into a piece of memory. A line may have `line_limit` bytes, its line feed not counted, and all
     /// lines together `total_limit`, with their line feeds.
     pub fn new(
         alloc: Global,
+        piece: Piece,
         source: &'a mut S,
         line_limit: u64,
         total_limit: u64,
-    ) -> Result<Lines<'a, S>, NoMemory>
-        ensures same_reference { IfOk result (λ l. (source_of l).ghost_name ≡ source.entry.ghost_name) }
-        ensures source { IfOk result (λ l. (source_of l).now ≡ source.old) }
-        ensures lines { IfOk result (λ l. lines_left S.left l ≡ option_map (lines_of line_limit total_limit) (S.left source.old)) }
-        ensures unread { IfOk result (λ l. unread_of S.left l ≡ S.left source.old) }
-        ensures room { IfOk result (λ l. room_of l ≡ total_limit) }
-        ensures bound { IfOk result (λ l. may_take l ≡ total_limit + 1) }
-        ensures clear { IfOk result (λ l. fault_of l ≡ None) }
-        ensures ends { IfOk result (λ l. EndsRightly S.left l) }
-        ensures remains { IfOk result (λ l. (b : List ℕ) → MayHaveLeft S.left l b → MayHold (S.left source.old) b) }
-        ensures lines_from { IfOk result (λ l. (b : List ℕ) → lines_from l b ≡ lines_of line_limit total_limit b) }
+    ) -> Lines<'a, S>
+        ensures same_reference { (source_of result).ghost_name ≡ source.entry.ghost_name }
+        ensures source { (source_of result).now ≡ source.old }
+        ensures lines { lines_left S.left result ≡ option_map (lines_of line_limit total_limit) (S.left source.old) }
+        ensures unread { unread_of S.left result ≡ S.left source.old }
+        ensures room { room_of result ≡ total_limit }
+        ensures bound { may_take result ≡ total_limit + 1 }
+        ensures clear { fault_of result ≡ None }
+        ensures ends { EndsRightly S.left result }
+        ensures remains { (b : List ℕ) → MayHaveLeft S.left result b → MayHold (S.left source.old) b }
+        ensures lines_from { (b : List ℕ) → lines_from result b ≡ lines_of line_limit total_limit b }
     {
-        Ok(Lines {
-            ahead: Ahead::new(alloc, source)?,
+        Lines {
+            ahead: Ahead::new(piece, source),
             alloc,
             line_limit,
             room: total_limit,
             ended: false,
             fault: None,
-        })
+        }
     }
 
     /// Gives the source back.

@@ -31,9 +31,10 @@ pub trait Source {
 
 /// A source of named documents, of which one is read at a time.
 pub trait Document: Source {
-    /// Goes to the start of a document.
+    /// Goes to the start of a document. Where it can't, it stays where it was.
     fn begin(&mut self, name: &Text) -> Result<(), CallFault>
         ensures begins { Begins (Self.documents self.old) name.now (Self.left self.new) result }
+        ensures refused { OnErr result (Self.left self.new ≡ Self.left self.old) }
         ensures same_documents { Self.documents self.new ≡ Self.documents self.old }
         ensures cause { CallHasCause (Self.faults self.old) (Self.faults self.new) result };
 }

@@ -9,6 +9,7 @@ use Rattle.es_model.specs.declared.memory.Failed.{Failed}
 use Rattle.es_process.specs.SingleThread.{Step, Run, IsRun, start, left_by, written_by}
 use Rattle.es_process.specs.Standing.{State, IsFrontOf}
 use Rattle.es_process.specs.Terms.{Terms}
+use Rattle.es_single.specs.Ends.{BySort, sort_of}
 use Rattle.es_single.specs.Limits.{lines_for}
 use Rattle.std.specs.Io.KnownBytes.{Appends}
 use Rattle.std.specs.Prelude.{◌≡◌, ◌⊎◌, ℕ, List, [], ◌∷◌, ◌++◌, Contains, Option, Some, Result, Ok, Err}
@@ -65,28 +66,12 @@ pub record ReadTo (t : Terms) (input : List ℕ) (readings : Readings) (openings
 abbrev pub ReadRun : Terms → Histories → Readings → List ℕ → Option (List ℕ) → (Histories → Type 0) → Option (List ℕ) → Option (List ℕ) → Type 0
 ReadRun t openings readings input unread left before now = (x : PartRun t openings readings input left before now []) × ReadTo t input readings openings unread x.done
 
--- a claim by the end: of a run that came to an end of its own, of one that was cut short, of one that reading cut short, and any other
-abbrev pub ByEnd : End → (End → Type 0) → Type 0 → Type 0 → Type 0 → Type 0
-ByEnd (end.Ok added lines) own cut read other = own (end.Ok added lines)
-ByEnd (end.Refused app leader id recordings code rule) own cut read other = own (end.Refused app leader id recordings code rule)
-ByEnd (end.Turns app turns) own cut read other = own (end.Turns app turns)
-ByEnd (end.Unreadable app id) own cut read other = own (end.Unreadable app id)
-ByEnd (end.Full app last capacity) own cut read other = own (end.Full app last capacity)
-ByEnd end.Over own cut read other = own end.Over
-ByEnd end.Memory own cut read other = cut
-ByEnd end.Input own cut read other = read
-ByEnd end.Recorder own cut read other = cut
-ByEnd end.NotBuilt own cut read other = other
-ByEnd end.Usage own cut read other = other
-ByEnd (end.Declaration code path) own cut read other = other
-ByEnd end.System own cut read other = other
-
 -- an end that comes of running lines
 abbrev pub IsRunning : End → Type 0
-IsRunning e = ByEnd e (λ x. Unit {0}) (Unit {0}) (Unit {0}) ⊥
+IsRunning e = BySort (sort_of e) (Unit {0}) (Unit {0}) (Unit {0}) ⊥
 
 -- what a run over empty applications leaves, by how it ended; or the sink failed in a text
 abbrev pub Runs : Terms → Histories → Readings → List ℕ → Option (List ℕ) → (Histories → Type 0) → Option (List ℕ) → Option (List ℕ) → Result End Failed → Type 0
 Runs t openings readings input unread left before now (Ok e) =
-    ByEnd e (λ x. WholeRun t openings readings input left before now x) (PartRun t openings readings input left before now []) (ReadRun t openings readings input unread left before now) ⊥
+    BySort (sort_of e) (WholeRun t openings readings input left before now e) (PartRun t openings readings input left before now []) (ReadRun t openings readings input unread left before now) ⊥
 Runs t openings readings input unread left before now (Err failed) = (front : List ℕ) × PartRun t openings readings input left before now front

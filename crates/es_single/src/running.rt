@@ -14,7 +14,7 @@ ghost use Rattle.es_single.specs.Runs.{AreEmpty, IsRunning, Runs, state_of};
 
 use crate::serve::{Stop, serve};
 use es_decl::leaders;
-use es_io::{Clock, Lines, Sink, Source};
+use es_io::{Clock, Lines, Piece, Sink, Source};
 use es_lines::End;
 use es_model::limits::{MOST_INPUT_BYTES, MOST_LINE_BYTES};
 use es_model::{CallFault, Counts, Duplicate, Failed, NoMemory, System};
@@ -142,8 +142,8 @@ pub fn run<S: Source, T: Sink, R: ProcessRecorder, C: Clock>(
     ensures same { AllStay R.snapshots R.faults apps.old apps.new }
     ensures out_later { T.faults out.old ≤ T.faults out.new }
 
-    // Unless memory ran out, at most one byte past the limit was taken from the lines.
-    ensures bound { (result ≡ Ok End.Memory) ⊎ TakesLines (S.left lines.old) (S.left lines.new) }
+    // At most one byte past the limit was taken from the lines.
+    ensures bound { TakesLines (S.left lines.old) (S.left lines.new) }
 
     ensures input { result ≡ Ok End.Input → Rose (S.faults lines.old) (S.faults lines.new) }
     ensures sink { OnErr result (Rose (T.faults out.old) (T.faults out.new)) }
@@ -152,9 +152,10 @@ pub fn run<S: Source, T: Sink, R: ProcessRecorder, C: Clock>(
     let Ok(prompted) = leaders(alloc, sys) else {
         return Ok(End::Memory);
     };
-    let Ok(mut reader) = Lines::new(alloc, lines, MOST_LINE_BYTES, MOST_INPUT_BYTES) else {
+    let Ok(piece) = Piece::new(alloc) else {
         return Ok(End::Memory);
     };
+    let mut reader = Lines::new(alloc, piece, lines, MOST_LINE_BYTES, MOST_INPUT_BYTES);
     let (stop, count) = serve(
         alloc,
         sys,

@@ -20,7 +20,8 @@ use Rattle.es_top.specs.declared.loading.LoadFault.TheVariants.{Declaration, Fai
 use Rattle.es_top.specs.declared.status.Status.{Status}
 use Rattle.es_top.specs.declared.status.Status.TheVariants as status
 use Rattle.es_top.specs.Declares.{IsEndUnasked, IsNotAsked, declares, declares_for, document_declares, name_declares}
-use Rattle.es_top.specs.Ends.{Sort, itself, stopped, unbuilt, unbegun, ended, end_of_load, sort_of, Writes}
+use Rattle.es_single.specs.Ends.{Sort, itself, stopped, unbuilt, unbegun, sort_of}
+use Rattle.es_top.specs.Ends.{ended, end_of_load, Writes}
 use Rattle.es_top.specs.Loads.{Loads}
 use Rattle.es_top.specs.Top.{Ran}
 use Rattle.es_top.specs.Words.{system_in}

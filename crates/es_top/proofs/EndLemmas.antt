@@ -31,7 +31,8 @@ use Rattle.es_top.specs.declared.loading.LoadFault.{LoadFault}
 use Rattle.es_top.specs.declared.loading.LoadFault.TheVariants as fault
 use Rattle.es_top.specs.declared.status.Status.{Status}
 use Rattle.es_top.specs.declared.status.Status.TheVariants as status
-use Rattle.es_top.specs.Ends.{Sort, itself, stopped, in_lines, unbuilt, unbegun, ended, end_of_load, status_of_load, sort_of, sorted, code_of, IfSeen, IsToldAs, Writes, WritesLine}
+use Rattle.es_single.specs.Ends.{Sort, itself, stopped, in_lines, unbuilt, unbegun, sort_of}
+use Rattle.es_top.specs.Ends.{ended, end_of_load, status_of_load, sorted, code_of, IsToldAs, Writes, WritesLine}
 use Rattle.es_top.specs.Opened.{IsBuilt, IsNotBuilt}
 use Rattle.es_top.specs.inner.Ran.{Stands}
 use Rattle.es_top.specs.Top.{Closes, Follows, FollowsBy, IsDone, LeavesConsistent, Made, Ran}
@@ -295,20 +296,3 @@ early_front P e s u w so starved writes is = by (subst (λ y. Writes e u w (ende
 
     by : Writes e u w None → (x : End) × P x × AppendsFront u w (as_line (end_text x))
     by y = (y.0, told y.0 y.1, y.2)
-
--- a claim on the end of a run, unless it is that memory ran out, is one on its status
-pub seen : {P : Type 0} (run : Result End Failed) (e : End) (s : Status) (v w : Option (List ℕ)) → run ≡ Ok e → Writes e v w (ended s) → (run ≡ Ok end.Memory) ⊎ P → IfSeen s P
-seen {P = P} run e s v w told writes so = by (ended s) refl writes so
-  where
-    memory : ended s ≡ Some end.Memory → s ≡ status.Memory
-    memory = of_status s
-      where
-        of_status : (y : Status) → ended y ≡ Some end.Memory → y ≡ status.Memory
-        of_status status.Memory is = refl
-        of_status y is = absurd (cc is)
-
-    by : (o : Option End) → ended s ≡ o → Writes e v w o → (run ≡ Ok end.Memory) ⊎ P → IfSeen s P
-    by None is y z = inr (inl (none_told s is))
-    by (Some x) is y (inr p) = inr (inr p)
-    by (Some x) is (inl same, line) (inl starved) = let both : Ok e ≡ Ok end.Memory = sym told ∙ starved in let one : e ≡ end.Memory = cc both in inl (memory (is ∙ ap Some (same ∙ one)))
-    by (Some x) is (inr same, line) (inl starved) = inl (memory (is ∙ ap Some same.0))

@@ -5,6 +5,7 @@ use Rattle.std.specs.Str.{bytes_eq}
 use Rattle.std.proofs.lemmas.Bool.Decides.{Decides-ltb}
 use Rattle.es_model.specs.declared.declaration.System.{System}
 use Rattle.es_model.specs.declared.declaration.Code.TheVariants as code
+use Rattle.es_model.specs.declared.limits.TheConstants.{MOST_DOCUMENT_BYTES}
 use Rattle.es_model.specs.declared.memory.CallFault.{CallFault}
 use Rattle.es_model.specs.Values.{Name}
 use Rattle.es_io.specs.Next.{TakesAtMost}
@@ -15,7 +16,7 @@ use Rattle.es_decl.specs.declared.builtin.TheConstants.{SAMPLE}
 use Rattle.es_top.specs.declared.loading.LoadFault.{LoadFault}
 use Rattle.es_top.specs.declared.loading.LoadFault.TheVariants.{Declaration, Failed, NoMemory}
 use Rattle.es_top.specs.Declares.{name_declares, document_declares}
-use Rattle.es_top.specs.Loads.{DeclaresIt, Loads, Gives, IsTooLong, IsRead, IsDocument, IsReadOf, ReadsOn}
+use Rattle.es_top.specs.Loads.{DeclaresIt, Loads, Gives, IsTooLong, IsRead, IsDocument, IsReadOf, ReadsOn, TakesDocument}
 
 -- nothing was read yet
 pub consumes_nothing : (u : Option (List ℕ)) → Consumes u u []
@@ -103,3 +104,19 @@ pub document_loads : (documents : Option NamedDocuments) (name title : Name) (re
     → Gives (declared slice) result → Loads documents name result
 document_loads documents name title read slice result differ same whole so gives =
     read_loads documents name read result differ (subst (λ (n : Name). IsDocument documents n read) same so) (subst (λ (b : List ℕ). Gives (declared b) result) whole gives)
+
+-- nothing was taken of a document that wasn't begun
+pub document_left : (documents : Option NamedDocuments) (name : Name) (old new : Option (List ℕ)) → new ≡ old → TakesDocument documents name old new
+document_left None name old new same = tt
+document_left (Some documents) name old new same = inl same
+
+-- what was taken of a document that was begun
+pub document_taken : (documents : Option NamedDocuments) (name : Name) (old begun new : Option (List ℕ)) (x : Unit {0}) → Begins {E = CallFault} documents name begun (Ok x) → TakesAtMost begun new (MOST_DOCUMENT_BYTES + 1) 0
+    → TakesDocument documents name old new
+document_taken None name old begun new x begins taken = tt
+document_taken (Some documents) name old begun new x begins taken =
+    inr (begins.0, begins.1, subst (λ (o : Option (List ℕ)). TakesAtMost o new (MOST_DOCUMENT_BYTES + 1) 0) begins.2 taken)
+
+-- of a document under another spelling of its name
+pub document_named : (documents : Option NamedDocuments) (name title : Name) (old new : Option (List ℕ)) → title ≡ name → TakesDocument documents title old new → TakesDocument documents name old new
+document_named documents name title old new same taken = subst (λ (n : Name). TakesDocument documents n old new) same taken

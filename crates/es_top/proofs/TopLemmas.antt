@@ -23,7 +23,7 @@ use Rattle.es_process.proofs.StandingLemmas.{appends_nothing}
 use Rattle.es_single.specs.Limits.{limits, terms_of, lines_for}
 use Rattle.es_single.specs.Runs.{AreEmpty, IsRunning, PartRun, Runs, WholeRun}
 use Rattle.es_single.specs.Traced.{OfInput}
-use Rattle.es_top.specs.Ends.{itself, sort_of, unbegun}
+use Rattle.es_single.specs.Ends.{itself, sort_of, unbegun}
 use Rattle.es_top.specs.Opened.{marked, AreFresh, HoldElsewhere, TellEach, IsOccupied, IsOccupiedTest, SomeFailed, is_beyond, has_interval, has_several}
 use Rattle.es_top.specs.inner.Ran.{IsOfSystem, Stands}
 use Rattle.es_top.specs.Top.{FollowsBy, IfTold, IsLeft, Made}

@@ -6,6 +6,7 @@ use Rattle.es_lines.specs.declared.ends.End.{End}
 use Rattle.es_lines.specs.declared.ends.End.TheVariants as end
 use Rattle.es_lines.specs.Texts.{end_text, is_fixed}
 use Rattle.es_process.specs.SingleThread.{as_line}
+use Rattle.es_single.specs.Ends.{Sort, sort_of}
 use Rattle.es_top.specs.declared.loading.LoadFault.{LoadFault}
 use Rattle.es_top.specs.declared.loading.LoadFault.TheVariants.{Declaration, Failed, NoMemory}
 use Rattle.es_top.specs.declared.status.Status.{Status}
@@ -45,29 +46,6 @@ code_of (status.Full app last capacity) = 12
 code_of status.Over = 13
 code_of status.NotBuilt = 15
 
--- what an end tells of the run: that it came to an end of its own, that want of memory or a recorder cut it short, that reading the lines did, that this stage doesn't make it, or that it didn't begin
-pub data Sort : Type 0 where
-  itself : Sort
-  stopped : Sort
-  in_lines : Sort
-  unbuilt : Sort
-  unbegun : Sort
-
-abbrev pub sort_of : End → Sort
-sort_of (end.Ok added lines) = itself
-sort_of (end.Refused app leader id recordings code rule) = itself
-sort_of (end.Turns app turns) = itself
-sort_of (end.Unreadable app id) = itself
-sort_of (end.Full app last capacity) = itself
-sort_of end.Over = itself
-sort_of end.Memory = stopped
-sort_of end.Recorder = stopped
-sort_of end.Input = in_lines
-sort_of end.NotBuilt = unbuilt
-sort_of end.Usage = unbegun
-sort_of (end.Declaration code path) = unbegun
-sort_of end.System = unbegun
-
 -- what a status tells of the run
 abbrev pub sorted : Status → Option Sort
 sorted s = option_map sort_of (ended s)
@@ -101,7 +79,3 @@ status_of_load NoMemory = status.Memory
 -- a status that a fault of the document or of the sink gives, or want of memory
 abbrev pub IsStopped : Status → Type 0
 IsStopped result = (result ≡ status.System) ⊎ (result ≡ status.Sink) ⊎ (result ≡ status.Memory)
-
--- a claim on a run of which it is seen how far it came: memory didn't run out, and the sink didn't fail
-abbrev pub IfSeen : Status → Type 0 → Type 0
-IfSeen result P = (result ≡ status.Memory) ⊎ ((result ≡ status.Sink) ⊎ P)

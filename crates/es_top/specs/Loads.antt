@@ -1,10 +1,11 @@
 -- What loading a system by its name answers.
-use Rattle.std.specs.Prelude.{◌≡◌, ◌⊎◌, ◌<◌, ℕ, List, length, ◌++◌, Option, Some, None, Result, Ok, Err, IsSome}
+use Rattle.std.specs.Prelude.{◌≡◌, ◌⊎◌, ◌<◌, ℕ, ◌+◌, List, length, ◌++◌, Option, Some, None, Result, Ok, Err, IsSome}
 use Rattle.std.specs.Io.KnownBytes.{Consumes, IsAtEnd}
 use Rattle.es_model.specs.declared.declaration.System.{System}
 use Rattle.es_model.specs.declared.limits.TheConstants.{MOST_DOCUMENT_BYTES}
 use Rattle.es_model.specs.Values.{Name}
 use Rattle.es_io.specs.Documents.{NamedDocuments}
+use Rattle.es_io.specs.Next.{TakesAtMost}
 use Rattle.es_decl.specs.Readings.{Reading}
 use Rattle.es_top.specs.declared.loading.LoadFault.{LoadFault}
 use Rattle.es_top.specs.declared.loading.LoadFault.TheVariants.{Declaration, Failed, NoMemory}
@@ -54,3 +55,8 @@ pub record ReadsOn (old new : Option (List ℕ)) (before now : List ℕ) (count 
   pub taken : Consumes old new piece
   pub behind : now ≡ before ++ piece
   pub end : count ≡ 0 → IsAtEnd new
+
+-- of a document that is told no more than one byte past its limit was taken, or it wasn't begun and nothing was
+abbrev pub TakesDocument : Option NamedDocuments → Name → Option (List ℕ) → Option (List ℕ) → Type 0
+TakesDocument None name old new = Unit {0}
+TakesDocument (Some documents) name old new = (new ≡ old) ⊎ ((bytes : List ℕ) × (documents name ≡ Some bytes) × TakesAtMost (Some bytes) new (MOST_DOCUMENT_BYTES + 1) 0)

@@ -22,7 +22,8 @@ use Rattle.es_single.specs.Runs.{IsRunOf, ReadTo}
 use Rattle.es_top.specs.declared.status.Status.{Status}
 use Rattle.es_top.specs.declared.status.Status.TheVariants as status
 use Rattle.es_top.specs.Declares.{declares}
-use Rattle.es_top.specs.Ends.{Sort, itself, stopped, in_lines, unbuilt, unbegun, ended, sort_of, code_of}
+use Rattle.es_single.specs.Ends.{Sort, itself, stopped, in_lines, unbuilt, unbegun, sort_of}
+use Rattle.es_top.specs.Ends.{ended, code_of}
 use Rattle.es_top.specs.Opened.{IsBuilt, IsNotBuilt}
 
 -- the first steps of the run of an input were made, none where this stage doesn't run the system, and then this tail was written; `left` says what is held

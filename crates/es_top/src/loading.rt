@@ -4,7 +4,7 @@ ghost use Rattle.es_expr.specs.Checked.{IsCheckedSystem};
 ghost use Rattle.es_io.specs.Next.{TakesAtMost};
 ghost use Rattle.es_decl.specs.Declaration.{declared as declared_by};
 ghost use Rattle.es_decl.specs.declared.builtin.TheConstants.{SAMPLE};
-ghost use Rattle.es_top.specs.Loads.{Gives, IsDocument, IsRead, Loads, ReadsOn};
+ghost use Rattle.es_top.specs.Loads.{Gives, IsDocument, IsRead, Loads, ReadsOn, TakesDocument};
 
 use es_decl::{DeclFault, read_system, sample};
 use es_io::{Document, Source};
@@ -101,6 +101,7 @@ fn read_document<D: Document>(
     name: &Text,
 ) -> Result<Bytes, CallFault>
     ensures read { IfOk result (IsDocument (D.documents system.old) name.now) }
+    ensures bound { TakesDocument (D.documents system.old) name.now (D.left system.old) (D.left system.new) }
     ensures cause { CallHasCause (D.faults system.old) (D.faults system.new) result }
 {
     match system.begin(name) {
@@ -113,6 +114,9 @@ fn read_document<D: Document>(
 pub fn load<D: Document>(alloc: Global, system: &mut D, name: &str) -> Result<System, LoadFault>
     ensures loads { Loads (D.documents system.old) name.now result }
     ensures checked { IfOk result IsCheckedSystem }
+
+    // Of the document no more than one byte past its limit is taken.
+    ensures bound { TakesDocument (D.documents system.old) name.now (D.left system.old) (D.left system.new) }
     ensures later { D.faults system.old ≤ D.faults system.new }
     ensures failed { IsErrOf result LoadFault.Failed → Rose (D.faults system.old) (D.faults system.new) }
 {

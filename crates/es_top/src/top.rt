@@ -1,4 +1,4 @@
-ghost use Rattle.std.specs.Prelude.{◌≡◌, ◌⊎◌, ◌≤◌, List, ℕ, Some, None, Ok, Err, IfOk, OnErr, false};
+ghost use Rattle.std.specs.Prelude.{◌≡◌, ◌⊎◌, ◌≤◌, List, ℕ, Some, None, Ok, Err, IfOk, IfSome, OnErr, false};
 ghost use Rattle.std.specs.Io.KnownBytes.{Appends};
 ghost use Rattle.es_model.specs.Causes.{Rose};
 ghost use Rattle.es_model.specs.declared.declaration.Code.{Code};
@@ -21,7 +21,9 @@ ghost use Rattle.es_single.specs.Limits.{limits, TakesLines};
 ghost use Rattle.es_single.specs.Runs.{state_of};
 ghost use Rattle.es_single.specs.Traced.{OfInput};
 ghost use Rattle.es_top.specs.Declares.{IsEndUnasked, declares, IsNotAsked};
-ghost use Rattle.es_top.specs.Ends.{end_of_load, ended, itself, sort_of, sorted, status_of_load, unbegun, IfSeen, IsStopped, Writes};
+ghost use Rattle.es_single.specs.Ends.{itself, sort_of, unbegun};
+ghost use Rattle.es_top.specs.Ends.{end_of_load, ended, sorted, status_of_load, IsStopped, Writes};
+ghost use Rattle.es_top.specs.Loads.{TakesDocument};
 ghost use Rattle.es_top.specs.Opened.{IsNotBuilt, IsBuilt, is_beyond};
 ghost use Rattle.es_top.specs.inner.Ran.{IsOfSystem, Stands};
 ghost use Rattle.es_top.specs.Top.{IfTold, IsLeft, LeavesConsistent, Ran, WhereDeclared};
@@ -57,7 +59,7 @@ fn run_opened<S: Source, T: Sink, R: ProcessRecorder, C: Clock>(
     ensures silent { result ≡ Ok End.NotBuilt → T.written out.new ≡ T.written out.old }
     ensures out_later { T.faults out.old ≤ T.faults out.new }
     ensures same { AllStay R.snapshots R.faults apps.old apps.new }
-    ensures bound { (result ≡ Ok End.Memory) ⊎ TakesLines (S.left lines.old) (S.left lines.new) }
+    ensures bound { TakesLines (S.left lines.old) (S.left lines.new) }
     ensures input { result ≡ Ok End.Input → Rose (S.faults lines.old) (S.faults lines.new) }
     ensures sink { OnErr result (Rose (T.faults out.old) (T.faults out.new)) }
     ensures recorder { result ≡ Ok End.Recorder → SomeRose R.faults apps.old apps.new }
@@ -92,7 +94,7 @@ fn run_pair<S: Source, T: Sink, M: Stores, C: Clock>(
     ensures closed { (name : Name) → M.out stores.new name ≡ M.out stores.old name }
     ensures same_snapshots { IsLeft (M.snapshots stores.old) (M.snapshots stores.new) }
     ensures out_later { T.faults out.old ≤ T.faults out.new }
-    ensures bound { (result ≡ Ok End.Memory) ⊎ TakesLines (S.left lines.old) (S.left lines.new) }
+    ensures bound { TakesLines (S.left lines.old) (S.left lines.new) }
     ensures input { result ≡ Ok End.Input → Rose (S.faults lines.old) (S.faults lines.new) }
     ensures sink { OnErr result (Rose (T.faults out.old) (T.faults out.new)) }
     ensures recorder { result ≡ Ok End.Recorder → Rose (M.faults stores.old) (M.faults stores.new) }
@@ -125,7 +127,7 @@ fn run_system<S: Source, T: Sink, M: Stores, C: Clock>(
     ensures closed { (name : Name) → M.out stores.new name ≡ M.out stores.old name }
     ensures same_snapshots { IsLeft (M.snapshots stores.old) (M.snapshots stores.new) }
     ensures out_later { T.faults out.old ≤ T.faults out.new }
-    ensures bound { (result ≡ Ok End.Memory) ⊎ TakesLines (S.left lines.old) (S.left lines.new) }
+    ensures bound { TakesLines (S.left lines.old) (S.left lines.new) }
     ensures input { result ≡ Ok End.Input → Rose (S.faults lines.old) (S.faults lines.new) }
     ensures sink { OnErr result (Rose (T.faults out.old) (T.faults out.new)) }
     ensures recorder { result ≡ Ok End.Recorder → Rose (M.faults stores.old) (M.faults stores.new) }
@@ -153,7 +155,7 @@ fn run_to_end<S: Source, T: Sink, M: Stores, C: Clock>(
     ensures ran { (h : Histories) → M.held stores.old ≡ Some h → OfInput (S.left lines.old) (S.left lines.new) (C.readings clock.old)
         (λ i rest r. Ran (Rose (S.faults lines.old) (S.faults lines.new)) (Rose (M.faults stores.old) (M.faults stores.new)) ⊥ sys.now i rest r h (M.held stores.new) (T.written out.old) (T.written out.new) result) }
     ensures begun { sorted result ≡ Some unbegun → ⊥ }
-    ensures bound { IfSeen result (TakesLines (S.left lines.old) (S.left lines.new)) }
+    ensures bound { TakesLines (S.left lines.old) (S.left lines.new) }
     ensures input { result ≡ Status.Input → Rose (S.faults lines.old) (S.faults lines.new) }
     ensures sink { result ≡ Status.Sink → Rose (T.faults out.old) (T.faults out.new) }
     ensures recorder { result ≡ Status.Recorder → Rose (M.faults stores.old) (M.faults stores.new) }
@@ -257,8 +259,9 @@ pub fn evsys_single<D: Document, S: Source, T: Sink, M: Stores, C: Clock>(
     ensures sink { result ≡ Status.Sink → Rose (T.faults out.old) (T.faults out.new) }
     ensures recorder { result ≡ Status.Recorder → Rose (M.faults stores.old) (M.faults stores.new) }
 
-    // No more than one byte past the limit is taken from the lines, which is said unless memory ran out or the sink failed.
-    ensures lines_bound { IfSeen result (TakesLines (S.left lines.old) (S.left lines.new)) }
+    // At every status no more than one byte past its limit is taken from the lines and from the document.
+    ensures lines_bound { TakesLines (S.left lines.old) (S.left lines.new) }
+    ensures document_bound { IfSome (system_in words.now) (λ name. TakesDocument (D.documents system.old) name (D.left system.old) (D.left system.new)) }
 
     // Status 15: exactly where this stage doesn't run the system, or an opened store holds a recording. The stores stay so.
     ensures built { (sys : SystemOf) → declares (D.documents system.old) words.now ≡ Some (Ok sys) → sorted result ≡ Some itself → IfTold (M.held stores.old) (IsBuilt sys) }

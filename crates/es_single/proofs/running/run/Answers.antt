@@ -10,7 +10,7 @@ use Rattle.es_single.specs.Limits.{limits, terms_of}
 use Rattle.es_single.specs.Runs.{state_of}
 use Rattle.es_single.proofs.CountLemmas.{leaders-same, only-apps}
 use Rattle.es_single.proofs.RunLemmas.{part_none, fault_runs, over_runs, read_runs, sink_runs, end_runs}
-use Rattle.es_single.proofs.TakenLemmas.{took_lines}
+use Rattle.es_single.proofs.TakenLemmas.{took_lines, took_nothing}
 use Rattle.es_single.proofs.InputLemmas.{some_readings, any_rest}
 use Rattle.es_single.proofs.running.run.Goals as goal
 
@@ -37,7 +37,7 @@ returns-in_default-new-clause-traced g c =
 
 pub returns-in-End-clause-traced : goal.returns-in-End-clause-traced
 returns-in-End-clause-traced g c =
-    let made = c.in-Ok-new.ensures {u = tt} in
+    let made = c.new-reader.ensures in
     let b = c.into_source-source.ensures.left c.serve-stop.ensures.lines.ends in
     let after = some_readings (g.C.Clock.readings c.serve-stop.new.clock) in
     let x = c.serve-stop.ensures.served b.0 after.0 b.1 after.1 in
@@ -50,7 +50,7 @@ returns-in-End-clause-traced g c =
 
 pub returns-in-Asked-clause-traced : goal.returns-in-Asked-clause-traced
 returns-in-Asked-clause-traced g c =
-    let made = c.in-Ok-new.ensures {u = tt} in
+    let made = c.new-reader.ensures in
     let b = c.into_source-source.ensures.left c.serve-stop.ensures.lines.ends in
     let after = some_readings (g.C.Clock.readings c.serve-stop.new.clock) in
     let x = c.serve-stop.ensures.served b.0 after.0 b.1 after.1 in
@@ -63,7 +63,7 @@ returns-in-Asked-clause-traced g c =
 
 pub returns-in-Over-clause-traced : goal.returns-in-Over-clause-traced
 returns-in-Over-clause-traced g c =
-    let made = c.in-Ok-new.ensures {u = tt} in
+    let made = c.new-reader.ensures in
     let b = c.into_source-source.ensures.left c.serve-stop.ensures.lines.ends in
     let after = some_readings (g.C.Clock.readings c.serve-stop.new.clock) in
     let x = c.serve-stop.ensures.served b.0 after.0 b.1 after.1 in
@@ -72,7 +72,7 @@ returns-in-Over-clause-traced g c =
 
 pub returns-in-Fault-clause-traced : goal.returns-in-Fault-clause-traced
 returns-in-Fault-clause-traced g c =
-    let made = c.in-Ok-new.ensures {u = tt} in
+    let made = c.new-reader.ensures in
     let b = c.into_source-source.ensures.left c.serve-stop.ensures.lines.ends in
     let after = some_readings (g.C.Clock.readings c.serve-stop.new.clock) in
     let x = c.serve-stop.ensures.served b.0 after.0 b.1 after.1 in
@@ -81,7 +81,7 @@ returns-in-Fault-clause-traced g c =
 
 pub returns-in-Read-clause-traced : goal.returns-in-Read-clause-traced
 returns-in-Read-clause-traced g c =
-    let made = c.in-Ok-new.ensures {u = tt} in
+    let made = c.new-reader.ensures in
     let b = some_held (g.S.Source.left (source_of c.serve-stop.new.lines).now) in
     let after = some_readings (g.C.Clock.readings c.serve-stop.new.clock) in
     let x = c.serve-stop.ensures.served b.0 after.0 (c.serve-stop.ensures.left c.in-Read.is b.0 b.1) after.1 in
@@ -100,7 +100,7 @@ returns-in-Read-clause-traced g c =
 
 pub returns-clause-traced : goal.returns-clause-traced
 returns-clause-traced g c =
-    let made = c.in-Ok-new.ensures {u = tt} in
+    let made = c.new-reader.ensures in
     let b = c.into_source-source.ensures.left c.serve-stop.ensures.lines.ends in
     let after = some_readings (g.C.Clock.readings c.serve-stop.new.clock) in
     let x = c.serve-stop.ensures.served b.0 after.0 b.1 after.1 in
@@ -109,30 +109,36 @@ returns-clause-traced g c =
 
 pub returns-in-End-clause-bound : goal.returns-in-End-clause-bound
 returns-in-End-clause-bound g c =
-    let made = c.in-Ok-new.ensures {u = tt} in
-    inr (took_lines _ _ _ _ _ _ (ap g.S.Source.left made.source) (search rules) made.bound c.serve-stop.ensures.lines.bound)
+    let made = c.new-reader.ensures in
+    took_lines _ _ _ _ _ _ (ap g.S.Source.left made.source) (search rules) made.bound c.serve-stop.ensures.lines.bound
 
 pub returns-in-Asked-clause-bound : goal.returns-in-Asked-clause-bound
 returns-in-Asked-clause-bound g c =
-    let made = c.in-Ok-new.ensures {u = tt} in
-    inr (took_lines _ _ _ _ _ _ (ap g.S.Source.left made.source) (search rules) made.bound c.serve-stop.ensures.lines.bound)
+    let made = c.new-reader.ensures in
+    took_lines _ _ _ _ _ _ (ap g.S.Source.left made.source) (search rules) made.bound c.serve-stop.ensures.lines.bound
 
 pub returns-in-Over-clause-bound : goal.returns-in-Over-clause-bound
 returns-in-Over-clause-bound g c =
-    let made = c.in-Ok-new.ensures {u = tt} in
-    inr (took_lines _ _ _ _ _ _ (ap g.S.Source.left made.source) (search rules) made.bound c.serve-stop.ensures.lines.bound)
+    let made = c.new-reader.ensures in
+    took_lines _ _ _ _ _ _ (ap g.S.Source.left made.source) (search rules) made.bound c.serve-stop.ensures.lines.bound
 
 pub returns-in-Fault-clause-bound : goal.returns-in-Fault-clause-bound
 returns-in-Fault-clause-bound g c =
-    let made = c.in-Ok-new.ensures {u = tt} in
-    inr (took_lines _ _ _ _ _ _ (ap g.S.Source.left made.source) (search rules) made.bound c.serve-stop.ensures.lines.bound)
+    let made = c.new-reader.ensures in
+    took_lines _ _ _ _ _ _ (ap g.S.Source.left made.source) (search rules) made.bound c.serve-stop.ensures.lines.bound
 
 pub returns-in-Read-clause-bound : goal.returns-in-Read-clause-bound
 returns-in-Read-clause-bound g c =
-    let made = c.in-Ok-new.ensures {u = tt} in
-    inr (took_lines _ _ _ _ _ _ (ap g.S.Source.left made.source) (search rules) made.bound c.serve-stop.ensures.lines.bound)
+    let made = c.new-reader.ensures in
+    took_lines _ _ _ _ _ _ (ap g.S.Source.left made.source) (search rules) made.bound c.serve-stop.ensures.lines.bound
 
 pub returns-clause-bound : goal.returns-clause-bound
 returns-clause-bound g c =
-    let made = c.in-Ok-new.ensures {u = tt} in
-    inr (took_lines _ _ _ _ _ _ (ap g.S.Source.left made.source) (search rules) made.bound c.serve-stop.ensures.lines.bound)
+    let made = c.new-reader.ensures in
+    took_lines _ _ _ _ _ _ (ap g.S.Source.left made.source) (search rules) made.bound c.serve-stop.ensures.lines.bound
+
+pub returns-in_default-clause-bound : goal.returns-in_default-clause-bound
+returns-in_default-clause-bound g c = took_nothing (g.S.Source.left c.args.lines.now) _ refl
+
+pub returns-in_default-new-clause-bound : goal.returns-in_default-new-clause-bound
+returns-in_default-new-clause-bound g c = took_nothing (g.S.Source.left c.args.lines.now) _ refl

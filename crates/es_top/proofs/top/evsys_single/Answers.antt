@@ -10,7 +10,8 @@ use Rattle.es_single.specs.Traced.{OfInput}
 use Rattle.es_single.proofs.TakenLemmas.{took_nothing}
 use Rattle.es_lines.specs.declared.ends.End.TheVariants as end
 use Rattle.es_top.specs.Declares.{IsEndUnasked, declares}
-use Rattle.es_top.specs.Ends.{Sort, itself, stopped, unbuilt, end_of_load, ended, sorted, Writes}
+use Rattle.es_single.specs.Ends.{Sort, itself, stopped, unbuilt}
+use Rattle.es_top.specs.Ends.{end_of_load, ended, sorted, Writes}
 use Rattle.es_top.specs.Opened.{IsBuilt, IsNotBuilt}
 use Rattle.es_top.specs.Top.{IfTold, Ran}
 use Rattle.es_top.proofs.EndLemmas.{early_front, of_sort, ran_consistent, ran_weaker, usage_front, writes_so}
@@ -111,7 +112,7 @@ pub returns-in_default-clause-early_line : goal.returns-in_default-clause-early_
 returns-in_default-clause-early_line g c = λ e told early. (writes_so end.Usage c.end_usage.result (g.T.Sink.written c.args.out.now) (g.T.Sink.written c.end_usage.new.out) c.end_usage.ensures.told e told).1
 
 pub returns-in_default-clause-lines_bound : goal.returns-in_default-clause-lines_bound
-returns-in_default-clause-lines_bound g c = inr (inr (took_nothing (g.S.Source.left c.args.lines.now) _ refl))
+returns-in_default-clause-lines_bound g c = took_nothing (g.S.Source.left c.args.lines.now) _ refl
 
 pub returns-in-Err-clause-lines_bound : goal.returns-in-Err-clause-lines_bound
-returns-in-Err-clause-lines_bound g c = inr (inr (took_nothing (g.S.Source.left c.args.lines.now) _ refl))
+returns-in-Err-clause-lines_bound g c = took_nothing (g.S.Source.left c.args.lines.now) _ refl

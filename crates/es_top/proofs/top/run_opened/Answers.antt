@@ -33,7 +33,10 @@ pub returns-clause-silent : goal.returns-clause-silent
 returns-clause-silent g c = running_ends c.run.result c.run.ensures.running
 
 pub returns-in-Err-Failed-clause-bound : goal.returns-in-Err-Failed-clause-bound
-returns-in-Err-Failed-clause-bound g c = inr (took_nothing (g.S.Source.left c.args.lines.now) _ refl)
+returns-in-Err-Failed-clause-bound g c = took_nothing (g.S.Source.left c.args.lines.now) _ refl
 
 pub returns-then-occupied-clause-bound : goal.returns-then-occupied-clause-bound
-returns-then-occupied-clause-bound g c = inr (took_nothing (g.S.Source.left c.args.lines.now) _ refl)
+returns-then-occupied-clause-bound g c = took_nothing (g.S.Source.left c.args.lines.now) _ refl
+
+pub returns-in-Err-NoMemory-clause-bound : goal.returns-in-Err-NoMemory-clause-bound
+returns-in-Err-NoMemory-clause-bound g c = took_nothing (g.S.Source.left c.args.lines.now) _ refl

@@ -75,4 +75,7 @@ pub returns-in-Err-NoMemory-clause-stands : goal.returns-in-Err-NoMemory-clause-
 returns-in-Err-NoMemory-clause-stands g c = of_input _ _ _ (λ i r h told. (made_none c.args.sys.now i r h _ _ _ (left_is h (g.M.Stores.held c.args.stores.now) _ told (c.in-Err-NoMemory.ensures {u = tt}).refused) refl, λ is. tt))
 
 pub returns-in-Err-Failed-clause-bound : goal.returns-in-Err-Failed-clause-bound
-returns-in-Err-Failed-clause-bound g c = inr (took_nothing (g.S.Source.left c.args.lines.now) _ refl)
+returns-in-Err-Failed-clause-bound g c = took_nothing (g.S.Source.left c.args.lines.now) _ refl
+
+pub returns-in-Err-NoMemory-clause-bound : goal.returns-in-Err-NoMemory-clause-bound
+returns-in-Err-NoMemory-clause-bound g c = took_nothing (g.S.Source.left c.args.lines.now) _ refl

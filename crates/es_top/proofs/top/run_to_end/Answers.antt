@@ -4,10 +4,11 @@ use Rattle.es_model.specs.History.{Histories}
 use Rattle.es_lines.specs.declared.ends.End.{End}
 use Rattle.es_lines.specs.declared.ends.End.TheVariants as end
 use Rattle.es_single.specs.Traced.{OfInput}
-use Rattle.es_top.specs.Ends.{ended, sorted, unbegun}
+use Rattle.es_single.specs.Ends.{unbegun}
+use Rattle.es_top.specs.Ends.{ended, sorted}
 use Rattle.es_top.specs.Opened.{IsBuilt, IsNotBuilt}
 use Rattle.es_top.specs.Top.{Ran}
-use Rattle.es_top.proofs.EndLemmas.{ran_built, ran_not_built, ran_stood, ran_text, of_sort, same_end, line_of_end, seen}
+use Rattle.es_top.proofs.EndLemmas.{ran_built, ran_not_built, ran_stood, ran_text, of_sort, same_end, line_of_end}
 use Rattle.es_top.proofs.TopLemmas.{if_told, left_told, of_then}
 use Rattle.es_top.proofs.top.run_to_end.Given as given
 use Rattle.es_top.proofs.top.run_to_end.Goals as goal
@@ -56,6 +57,3 @@ returns-in-Ok-clause-input g c = λ is. c.run_system.ensures.input (end_is g c e
 
 pub returns-in-Ok-clause-recorder : goal.returns-in-Ok-clause-recorder
 returns-in-Ok-clause-recorder g c = λ is. c.run_system.ensures.recorder (end_is g c end.Recorder (λ same. absurd (cc same)) (ap ended is))
-
-pub returns-in-Ok-clause-bound : goal.returns-in-Ok-clause-bound
-returns-in-Ok-clause-bound g c = seen c.run_system.result c.in-Ok.end c.finish.result (g.T.Sink.written c.run_system.new.out) (g.T.Sink.written c.finish.new.out) c.in-Ok.is c.finish.ensures.told c.run_system.ensures.bound
