@@ -1,7 +1,8 @@
-use Rattle.std.proofs.Common.{rules, inr, inl, ◌≡◌, ◌⊎◌, ◌∙◌, pos, ℕ, List, [], Some, Ok, refl, sym, subst, ap, Err}
+use Rattle.std.proofs.Common.{rules, inr, inl, ◌≡◌, ◌⊎◌, ◌∙◌, pos, ℕ, List, [], Some, Ok, Option, IfSome, refl, sym, subst, ap, Err}
 use Rattle.es_model.specs.Causes.{Rose}
 use Rattle.es_model.specs.declared.declaration.System.{System}
 use Rattle.es_model.specs.History.{Histories}
+use Rattle.es_model.specs.Values.{Name}
 use Rattle.es_io.specs.Readings.{Readings}
 use Rattle.es_process.specs.SystemRules.{rules_of}
 use Rattle.es_process.proofs.DrainLemmas.{run-exists}
@@ -12,6 +13,7 @@ use Rattle.es_lines.specs.declared.ends.End.TheVariants as end
 use Rattle.es_top.specs.Declares.{IsEndUnasked, declares}
 use Rattle.es_single.specs.Ends.{Sort, itself, stopped, unbuilt}
 use Rattle.es_top.specs.Ends.{end_of_load, ended, sorted, Writes}
+use Rattle.es_top.specs.Loads.{TakesDocument}
 use Rattle.es_top.specs.Opened.{IsBuilt, IsNotBuilt}
 use Rattle.es_top.specs.Top.{IfTold, Ran}
 use Rattle.es_top.proofs.EndLemmas.{early_front, of_sort, ran_consistent, ran_weaker, usage_front, writes_so}
@@ -116,3 +118,10 @@ returns-in_default-clause-lines_bound g c = took_nothing (g.S.Source.left c.args
 
 pub returns-in-Err-clause-lines_bound : goal.returns-in-Err-clause-lines_bound
 returns-in-Err-clause-lines_bound g c = took_nothing (g.S.Source.left c.args.lines.now) _ refl
+
+-- what was taken of the document that the words name
+pub returns-in-Ok-clause-document_bound : goal.returns-in-Ok-clause-document_bound
+returns-in-Ok-clause-document_bound g c = subst (λ (o : Option Name). IfSome o (λ name. TakesDocument (g.D.Source.documents c.args.system.now) name (g.D.Source.left c.args.system.now) (g.D.Source.left c.load.new.system))) (c.in-Some.ensures {u = tt}) c.load.ensures.bound
+
+pub returns-in-Err-clause-document_bound : goal.returns-in-Err-clause-document_bound
+returns-in-Err-clause-document_bound g c = subst (λ (o : Option Name). IfSome o (λ name. TakesDocument (g.D.Source.documents c.args.system.now) name (g.D.Source.left c.args.system.now) (g.D.Source.left c.load.new.system))) (c.in-Some.ensures {u = tt}) c.load.ensures.bound
