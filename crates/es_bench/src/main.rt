@@ -1,10 +1,8 @@
 //! Measures parts of the library. A word says what is measured, and each number after it how much of it: `recorders`
-//! how many recordings are held, `records`, `expressions` and `policies` how many are encoded, tested and decided,
-//! `declarations` how often each document is read. What was done is written to the standard output, and how fast
-//! to the standard error.
+//! how many recordings are held, `records`, `expressions` and `policies` how many are encoded, tested and decided.
+//! What was done is written to the standard output, and how fast to the standard error.
 #![tactic(auto)]
 
-mod declarations;
 mod expressions;
 mod policies;
 mod recorders;
@@ -22,7 +20,6 @@ enum Part {
     Recorders,
     Records,
     Expressions,
-    Declarations,
     Policies,
 }
 
@@ -32,7 +29,6 @@ impl Part {
             "recorders" => Some(Part::Recorders),
             "records" => Some(Part::Records),
             "expressions" => Some(Part::Expressions),
-            "declarations" => Some(Part::Declarations),
             "policies" => Some(Part::Policies),
             _ => None,
         }
@@ -54,7 +50,6 @@ fn measure(
         Part::Recorders => recorders::measure(rt, alloc, number),
         Part::Records => records::measure(rt, alloc, number),
         Part::Expressions => expressions::measure(rt, alloc, number),
-        Part::Declarations => declarations::measure(rt, alloc, number),
         Part::Policies => policies::measure(rt, alloc, number),
     }
 }
