@@ -1,4 +1,5 @@
 pub mod Answer
+pub mod Applications
 pub mod Consistent
 pub mod Decision
 pub mod Drains

@@ -1,7 +1,7 @@
 //! One application over its recorder: what it makes of a command, and of a leader's notification.
 ghost use Rattle.std.specs.Prelude.{◌≡◌, ◌⊎◌, ◌≤◌, ◌<◌, ◌^◌, ◌-◌, ◌+◌, List, Some, None, All, IsTrue, is_some, OnOk, OnErr, IfOk, IfErr, IsErrOf, IfSome, length, slice_get};
 ghost use Rattle.es_model.specs.declared.event.Recording.{Recording};
-ghost use Rattle.es_model.specs.Causes.{Rose};
+ghost use Rattle.es_model.specs.Causes.{CallHasCause, Rose};
 ghost use Rattle.es_model.specs.Declaration.{app_named};
 ghost use Rattle.es_model.specs.History.{log, latest};
 ghost use Rattle.es_model.specs.Tracking.{tracked_in};
@@ -14,6 +14,7 @@ ghost use Rattle.es_repo.specs.Verdicts.{command_verdict, policy_verdict, Follow
 ghost use Rattle.es_lines.specs.CommandText.{command_text};
 ghost use Rattle.es_lines.specs.Requests.{IsDeclared};
 ghost use Rattle.es_repo.specs.declared.verdict.Verdict.TheVariants as verdicts;
+ghost use Rattle.es_process.specs.Applications.{IsOpened, name_of, recorder_of, turns_of, used_of};
 ghost use Rattle.es_process.specs.Answer.{recording_of as recording_at, options, differs, followed, followed_of, accept_unless, answer_of};
 ghost use Rattle.es_process.specs.Decision.{Logs};
 ghost use Rattle.es_process.specs.SystemRules.{rules_of, decision_of};
@@ -28,7 +29,7 @@ use es_io::Clock;
 use es_lines::{Reply, Request, command_text};
 use es_mapper::{MapFault, to_domain};
 use es_model::{
-    Cause, DomainEvent, Duplicate, Moment, NoMemory, Notification, Recording, StoredEvent,
+    CallFault, Cause, DomainEvent, Duplicate, Moment, NoMemory, Notification, Recording, StoredEvent,
     StoredEvents, System, Text,
 };
 use es_recorder::{InsertFault, Inserted, ProcessRecorder};
@@ -39,12 +40,58 @@ use uuid::Uuid;
 /// An application that was opened.
 #[derive(Drop)]
 pub struct Application<R> {
-    pub name: Text,
-    pub recorder: R,
-    /// How many notifications it may record.
-    pub turns: u64,
-    /// How many it has recorded since it was opened.
-    pub used: u64,
+    pub(crate) name: Text,
+    pub(crate) recorder: R,
+    // How many notifications it may record.
+    pub(crate) turns: u64,
+    // How many it has recorded since it was opened.
+    pub(crate) used: u64,
+}
+
+impl<R> Application<R> {
+    /// Opens an application over its recorder, from which it may record so many notifications of its leaders. Where there is no memory for
+    /// its name the recorder is given back.
+    pub fn open(name: &Text, recorder: R, turns: u64) -> Result<Application<R>, (R, NoMemory)>
+        ensures opened { IfOk result (IsOpened name.now recorder turns) }
+        ensures refused { IfErr result (λ e. e.0 ≡ recorder) }
+    {
+        match name.copy() {
+            Ok(name) => Ok(Application {
+                name,
+                recorder,
+                turns,
+                used: 0,
+            }),
+            Err(NoMemory) => Err((recorder, NoMemory)),
+        }
+    }
+
+    /// Gives the recorder back.
+    pub fn close(self) -> R
+        ensures { result ≡ recorder_of self }
+    {
+        let Application {
+            name: _,
+            recorder,
+            turns: _,
+            used: _,
+        } = self;
+        recorder
+    }
+
+    /// The name by which it was opened.
+    pub fn name(&self) -> &Text
+        ensures { result.now ≡ name_of self.now }
+    {
+        &self.name
+    }
+
+    /// How many notifications it has recorded since it was opened.
+    pub fn used(&self) -> u64
+        ensures { result ≡ used_of self.now }
+    {
+        self.used
+    }
 }
 
 /// What was made of a notification.
@@ -139,15 +186,24 @@ pub fn convert(
 }
 
 impl<R: ProcessRecorder> Application<R> {
+    /// How many recordings its recorder holds.
+    pub fn recordings(&mut self) -> Result<u64, CallFault>
+        ensures told { (h : List Recording) → R.history (recorder_of self.old) ≡ Some h → IfOk result (λ n. n ≡ length h) }
+        ensures same { IsSame R.history R.capacity R.snapshots R.faults self.old self.new }
+        ensures cause { CallHasCause (R.faults (recorder_of self.old)) (R.faults (recorder_of self.new)) result }
+    {
+        self.recorder.recordings()
+    }
+
     // Adds a recording that nothing but want of room refuses.
     fn add(&mut self, recording: &Recording) -> Result<Inserted, RunFault>
         requires insertable { IsInsertable recording.now }
-        requires fits { IfSome (R.history self.old.recorder) (λ h. Fits h recording.now) }
-        ensures adds { (h : List Recording) → R.history self.old.recorder ≡ Some h → Adds (R.capacity self.old.recorder) self.old.name h recording.now result (R.history self.new.recorder) }
+        requires fits { IfSome (R.history (recorder_of self.old)) (λ h. Fits h recording.now) }
+        ensures adds { (h : List Recording) → R.history (recorder_of self.old) ≡ Some h → Adds (R.capacity (recorder_of self.old)) (name_of self.old) h recording.now result (R.history (recorder_of self.new)) }
         ensures faults { IfErr result MayFailToAdd }
         ensures same { Stays R.capacity R.snapshots R.faults self.old self.new }
-        ensures same_used { self.new.used ≡ self.old.used }
-        ensures failed { IsErrOf result RunFault.Recorder → Rose (R.faults self.old.recorder) (R.faults self.new.recorder) }
+        ensures same_used { (used_of self.new) ≡ (used_of self.old) }
+        ensures failed { IsErrOf result RunFault.Recorder → Rose (R.faults (recorder_of self.old)) (R.faults (recorder_of self.new)) }
     {
         match self.recorder.insert(recording) {
             Ok(inserted) => Ok(inserted),
@@ -181,13 +237,13 @@ impl<R: ProcessRecorder> Application<R> {
         clock: &mut C,
     ) -> Result<Reply, RunFault>
         requires checked { IsCheckedSystem sys.now }
-        requires asked { MayAsk sys.now self.old.name request.now }
-        ensures leaves { Traced (C.readings clock.old) (C.readings clock.new) (λ before after. (h : List Recording) (r : Readings) → R.history self.old.recorder ≡ Some h → before ≡ Some r
-            → Leaves (request_answer sys.now (R.capacity self.old.recorder) self.old.name h request.now (first_reading r)) h result (R.history self.new.recorder) × OnOk result (after ≡ Some (readings_left h request.now r))) }
+        requires asked { MayAsk sys.now (name_of self.old) request.now }
+        ensures leaves { Traced (C.readings clock.old) (C.readings clock.new) (λ before after. (h : List Recording) (r : Readings) → R.history (recorder_of self.old) ≡ Some h → before ≡ Some r
+            → Leaves (request_answer sys.now (R.capacity (recorder_of self.old)) (name_of self.old) h request.now (first_reading r)) h result (R.history (recorder_of self.new)) × OnOk result (after ≡ Some (readings_left h request.now r))) }
         ensures faults { IfErr result MayFailToAdd }
         ensures same { Stays R.capacity R.snapshots R.faults self.old self.new }
-        ensures same_used { self.new.used ≡ self.old.used }
-        ensures failed { IsErrOf result RunFault.Recorder → Rose (R.faults self.old.recorder) (R.faults self.new.recorder) }
+        ensures same_used { (used_of self.new) ≡ (used_of self.old) }
+        ensures failed { IsErrOf result RunFault.Recorder → Rose (R.faults (recorder_of self.old)) (R.faults (recorder_of self.new)) }
     {
         match request {
             Request::Do { app: _, command } => self.answer_command(alloc, sys, command, clock),
@@ -212,13 +268,13 @@ impl<R: ProcessRecorder> Application<R> {
         clock: &mut C,
     ) -> Result<Reply, RunFault>
         requires checked { IsCheckedSystem sys.now }
-        requires declared { IsDeclared sys.now self.old.name command.now }
-        ensures leaves { Traced (C.readings clock.old) (C.readings clock.new) (λ before after. (h : List Recording) (r : Readings) → R.history self.old.recorder ≡ Some h → before ≡ Some r
-            → Leaves (command_answer sys.now (R.capacity self.old.recorder) self.old.name h command.now (first_reading r)) h result (R.history self.new.recorder) × OnOk result (after ≡ Some (readings_after h command.now r))) }
+        requires declared { IsDeclared sys.now (name_of self.old) command.now }
+        ensures leaves { Traced (C.readings clock.old) (C.readings clock.new) (λ before after. (h : List Recording) (r : Readings) → R.history (recorder_of self.old) ≡ Some h → before ≡ Some r
+            → Leaves (command_answer sys.now (R.capacity (recorder_of self.old)) (name_of self.old) h command.now (first_reading r)) h result (R.history (recorder_of self.new)) × OnOk result (after ≡ Some (readings_after h command.now r))) }
         ensures faults { IfErr result MayFailToAdd }
         ensures same { Stays R.capacity R.snapshots R.faults self.old self.new }
-        ensures same_used { self.new.used ≡ self.old.used }
-        ensures failed { IsErrOf result RunFault.Recorder → Rose (R.faults self.old.recorder) (R.faults self.new.recorder) }
+        ensures same_used { (used_of self.new) ≡ (used_of self.old) }
+        ensures failed { IsErrOf result RunFault.Recorder → Rose (R.faults (recorder_of self.old)) (R.faults (recorder_of self.new)) }
     {
         let version = self.recorder.latest_version(command.id)?;
         if expects_other(command.expect, version) {
@@ -238,14 +294,14 @@ impl<R: ProcessRecorder> Application<R> {
         at: Moment,
     ) -> Result<Reply, RunFault>
         requires checked { IsCheckedSystem sys.now }
-        requires declared { IsDeclared sys.now self.old.name command.now }
+        requires declared { IsDeclared sys.now (name_of self.old) command.now }
         requires small { version < 2 ^ 62 }
-        ensures leaves { (h : List Recording) → R.history self.old.recorder ≡ Some h → version ≡ latest (log h) command.now.id
-            → Leaves (answer_of (R.capacity self.old.recorder) self.old.name h (command_text self.old.name command.now) command.now.id at (decision_of self.old.name (command_verdict sys.now command.now at h))) h result (R.history self.new.recorder) }
+        ensures leaves { (h : List Recording) → R.history (recorder_of self.old) ≡ Some h → version ≡ latest (log h) command.now.id
+            → Leaves (answer_of (R.capacity (recorder_of self.old)) (name_of self.old) h (command_text (name_of self.old) command.now) command.now.id at (decision_of (name_of self.old) (command_verdict sys.now command.now at h))) h result (R.history (recorder_of self.new)) }
         ensures faults { IfErr result MayFailToAdd }
         ensures same { Stays R.capacity R.snapshots R.faults self.old self.new }
-        ensures same_used { self.new.used ≡ self.old.used }
-        ensures failed { IsErrOf result RunFault.Recorder → Rose (R.faults self.old.recorder) (R.faults self.new.recorder) }
+        ensures same_used { (used_of self.new) ≡ (used_of self.old) }
+        ensures failed { IsErrOf result RunFault.Recorder → Rose (R.faults (recorder_of self.old)) (R.faults (recorder_of self.new)) }
     {
         let verdict = judge_command(alloc, sys, &mut self.recorder, command, at)?;
         self.answer_with(alloc, command, version, at, verdict)
@@ -262,13 +318,13 @@ impl<R: ProcessRecorder> Application<R> {
     ) -> Result<Reply, RunFault>
         requires small { version < 2 ^ 62 }
         requires verdict { IsSmallVerdict verdict }
-        requires follows { IfSome (R.history self.old.recorder) (λ h. FollowsIn (log h) verdict) }
-        ensures leaves { (h : List Recording) → R.history self.old.recorder ≡ Some h → version ≡ latest (log h) command.now.id
-            → Leaves (answer_of (R.capacity self.old.recorder) self.old.name h (command_text self.old.name command.now) command.now.id at (decision_of self.old.name verdict)) h result (R.history self.new.recorder) }
+        requires follows { IfSome (R.history (recorder_of self.old)) (λ h. FollowsIn (log h) verdict) }
+        ensures leaves { (h : List Recording) → R.history (recorder_of self.old) ≡ Some h → version ≡ latest (log h) command.now.id
+            → Leaves (answer_of (R.capacity (recorder_of self.old)) (name_of self.old) h (command_text (name_of self.old) command.now) command.now.id at (decision_of (name_of self.old) verdict)) h result (R.history (recorder_of self.new)) }
         ensures faults { IfErr result MayFailToAdd }
         ensures same { Stays R.capacity R.snapshots R.faults self.old self.new }
-        ensures same_used { self.new.used ≡ self.old.used }
-        ensures failed { IsErrOf result RunFault.Recorder → Rose (R.faults self.old.recorder) (R.faults self.new.recorder) }
+        ensures same_used { (used_of self.new) ≡ (used_of self.old) }
+        ensures failed { IsErrOf result RunFault.Recorder → Rose (R.faults (recorder_of self.old)) (R.faults (recorder_of self.new)) }
     {
         match verdict {
             Verdict::Events(events) => self.accept(alloc, command, version, at, events),
@@ -291,13 +347,13 @@ impl<R: ProcessRecorder> Application<R> {
     ) -> Result<Reply, RunFault>
         requires small { version < 2 ^ 62 }
         requires versions { All (λ e. e.originator_version < 2 ^ 63) events }
-        requires follows { IfSome (R.history self.old.recorder) (λ h. first_conflict (log h) events ≡ None) }
-        ensures leaves { (h : List Recording) → R.history self.old.recorder ≡ Some h → version ≡ latest (log h) command.now.id
-            → Leaves (accept_unless (too_many (R.capacity self.old.recorder) (length (log h)) events) (R.capacity self.old.recorder) self.old.name h (recording_at (Cause.Command (command_text self.old.name command.now)) at events) command.now.id) h result (R.history self.new.recorder) }
+        requires follows { IfSome (R.history (recorder_of self.old)) (λ h. first_conflict (log h) events ≡ None) }
+        ensures leaves { (h : List Recording) → R.history (recorder_of self.old) ≡ Some h → version ≡ latest (log h) command.now.id
+            → Leaves (accept_unless (too_many (R.capacity (recorder_of self.old)) (length (log h)) events) (R.capacity (recorder_of self.old)) (name_of self.old) h (recording_at (Cause.Command (command_text (name_of self.old) command.now)) at events) command.now.id) h result (R.history (recorder_of self.new)) }
         ensures faults { IfErr result MayFailToAdd }
         ensures same { Stays R.capacity R.snapshots R.faults self.old self.new }
-        ensures same_used { self.new.used ≡ self.old.used }
-        ensures failed { IsErrOf result RunFault.Recorder → Rose (R.faults self.old.recorder) (R.faults self.new.recorder) }
+        ensures same_used { (used_of self.new) ≡ (used_of self.old) }
+        ensures failed { IsErrOf result RunFault.Recorder → Rose (R.faults (recorder_of self.old)) (R.faults (recorder_of self.new)) }
     {
         let version = version + count_own(events.as_slice(), command.id);
         let recording = accepted(alloc, &self.name, command, at, events)?;
@@ -314,11 +370,11 @@ impl<R: ProcessRecorder> Application<R> {
 
     /// The greatest notification id of a leader that it tracks.
     pub fn tracked(&mut self, leader: &Text) -> Result<u64, RunFault>
-        ensures value { IfSome (R.history self.old.recorder) (λ h. IfOk result (λ id. id ≡ tracked_in h leader.now)) }
+        ensures value { IfSome (R.history (recorder_of self.old)) (λ h. IfOk result (λ id. id ≡ tracked_in h leader.now)) }
         ensures small { IfOk result (λ id. id < 2 ^ 62) }
         ensures faults { IfErr result MayFailToRead }
         ensures same { IsSame R.history R.capacity R.snapshots R.faults self.old self.new }
-        ensures failed { IsErrOf result RunFault.Recorder → Rose (R.faults self.old.recorder) (R.faults self.new.recorder) }
+        ensures failed { IsErrOf result RunFault.Recorder → Rose (R.faults (recorder_of self.old)) (R.faults (recorder_of self.new)) }
     {
         Ok(self.recorder.max_tracking_id(leader)?)
     }
@@ -326,11 +382,11 @@ impl<R: ProcessRecorder> Application<R> {
     /// Its notification after one that is tracked, if there is one.
     pub fn next_after(&mut self, tracked: u64) -> Result<Option<Notification>, RunFault>
         requires { tracked < 2 ^ 62 }
-        ensures found { IfSome (R.history self.old.recorder) (λ h. IfOk result (IsNextAfter (log h) tracked)) }
+        ensures found { IfSome (R.history (recorder_of self.old)) (λ h. IfOk result (IsNextAfter (log h) tracked)) }
         ensures small { IfOk result (λ found. IfSome found IsSmall) }
         ensures faults { IfErr result MayFailToRead }
         ensures same { IsSame R.history R.capacity R.snapshots R.faults self.old self.new }
-        ensures failed { IsErrOf result RunFault.Recorder → Rose (R.faults self.old.recorder) (R.faults self.new.recorder) }
+        ensures failed { IsErrOf result RunFault.Recorder → Rose (R.faults (recorder_of self.old)) (R.faults (recorder_of self.new)) }
     {
         let next = self.recorder.select_notifications(tracked + 1, 1)?;
         Ok(next.into_vec().pop())
@@ -347,20 +403,20 @@ impl<R: ProcessRecorder> Application<R> {
         clock: &mut C,
     ) -> Result<Processed, RunFault>
         requires checked { IsCheckedSystem sys.now }
-        requires app { IsTrue (is_some (app_named sys.now.apps self.old.name)) }
+        requires app { IsTrue (is_some (app_named sys.now.apps (name_of self.old))) }
         requires leader { IsTrue (is_some (app_named sys.now.apps leader.now)) }
         requires small { IsSmall notification.now }
         ensures processed { Traced (C.readings clock.old) (C.readings clock.new) (λ before after. (logs : Logs) (h : List Recording) (r : Readings) → slice_get (logs leader.now) (notification.now.id - 1) ≡ Some notification.now.event
-            → R.history self.old.recorder ≡ Some h → before ≡ Some r
+            → R.history (recorder_of self.old) ≡ Some h → before ≡ Some r
             → Processes leader.now notification.now.id
-            (followed (rules_of sys.now) (options (R.capacity self.old.recorder) self.old.turns) self.old.name h self.old.used logs leader.now notification.now.id (first_reading r))
-            h self.old.used r result (R.history self.new.recorder) self.new.used after) }
-        ensures counts { self.old.used ≤ self.new.used }
-        ensures bounded { self.old.used ≤ self.old.turns → self.new.used ≤ self.new.turns }
-        ensures counted { IsRecorded result → self.new.used ≡ self.old.used + 1 }
-        ensures free { IsRecorded result → self.old.used < self.old.turns }
+            (followed (rules_of sys.now) (options (R.capacity (recorder_of self.old)) (turns_of self.old)) (name_of self.old) h (used_of self.old) logs leader.now notification.now.id (first_reading r))
+            h (used_of self.old) r result (R.history (recorder_of self.new)) (used_of self.new) after) }
+        ensures counts { (used_of self.old) ≤ (used_of self.new) }
+        ensures bounded { (used_of self.old) ≤ (turns_of self.old) → (used_of self.new) ≤ (turns_of self.new) }
+        ensures counted { IsRecorded result → (used_of self.new) ≡ (used_of self.old) + 1 }
+        ensures free { IsRecorded result → (used_of self.old) < (turns_of self.old) }
         ensures same { Stays R.capacity R.snapshots R.faults self.old self.new }
-        ensures failed { IsErrOf result RunFault.Recorder → Rose (R.faults self.old.recorder) (R.faults self.new.recorder) }
+        ensures failed { IsErrOf result RunFault.Recorder → Rose (R.faults (recorder_of self.old)) (R.faults (recorder_of self.new)) }
     {
         let tracked = self.recorder.max_tracking_id(leader)?;
         if notification.id <= tracked {
@@ -388,19 +444,19 @@ impl<R: ProcessRecorder> Application<R> {
         clock: &mut C,
     ) -> Result<Inserted, RunFault>
         requires checked { IsCheckedSystem sys.now }
-        requires app { IsTrue (is_some (app_named sys.now.apps self.old.name)) }
+        requires app { IsTrue (is_some (app_named sys.now.apps (name_of self.old))) }
         requires leader { IsTrue (is_some (app_named sys.now.apps leader.now)) }
         requires small { IsSmall notification.now }
-        requires next { IfSome (R.history self.old.recorder) (λ h. notification.now.id ≡ tracked_in h leader.now + 1) }
+        requires next { IfSome (R.history (recorder_of self.old)) (λ h. notification.now.id ≡ tracked_in h leader.now + 1) }
         ensures taken { Traced (C.readings clock.old) (C.readings clock.new) (λ before after. (logs : Logs) (h : List Recording) (r : Readings) → slice_get (logs leader.now) (notification.now.id - 1) ≡ Some notification.now.event
-            → R.history self.old.recorder ≡ Some h → before ≡ Some r
-            → Takes (followed (rules_of sys.now) (options (R.capacity self.old.recorder) self.old.turns) self.old.name h self.old.used logs leader.now notification.now.id (first_reading r))
-            h self.old.used r result (R.history self.new.recorder) self.new.used after) }
-        ensures counted { OnOk result (self.new.used ≡ self.old.used + 1) }
-        ensures uncounted { OnErr result (self.new.used ≡ self.old.used) }
-        ensures free { OnOk result (self.old.used < self.old.turns) }
+            → R.history (recorder_of self.old) ≡ Some h → before ≡ Some r
+            → Takes (followed (rules_of sys.now) (options (R.capacity (recorder_of self.old)) (turns_of self.old)) (name_of self.old) h (used_of self.old) logs leader.now notification.now.id (first_reading r))
+            h (used_of self.old) r result (R.history (recorder_of self.new)) (used_of self.new) after) }
+        ensures counted { OnOk result ((used_of self.new) ≡ (used_of self.old) + 1) }
+        ensures uncounted { OnErr result ((used_of self.new) ≡ (used_of self.old)) }
+        ensures free { OnOk result ((used_of self.old) < (turns_of self.old)) }
         ensures same { Stays R.capacity R.snapshots R.faults self.old self.new }
-        ensures failed { IsErrOf result RunFault.Recorder → Rose (R.faults self.old.recorder) (R.faults self.new.recorder) }
+        ensures failed { IsErrOf result RunFault.Recorder → Rose (R.faults (recorder_of self.old)) (R.faults (recorder_of self.new)) }
     {
         if self.used >= self.turns {
             let app = self.name.copy()?;
@@ -427,16 +483,16 @@ impl<R: ProcessRecorder> Application<R> {
         at: Moment,
     ) -> Result<Inserted, RunFault>
         requires checked { IsCheckedSystem sys.now }
-        requires app { IsTrue (is_some (app_named sys.now.apps self.old.name)) }
+        requires app { IsTrue (is_some (app_named sys.now.apps (name_of self.old))) }
         requires notice { IsNotice sys.now (notice leader.now id event.now) }
-        requires free { self.old.used < self.old.turns }
-        requires next { IfSome (R.history self.old.recorder) (λ h. id ≡ tracked_in h leader.now + 1) }
-        ensures records { (h : List Recording) → R.history self.old.recorder ≡ Some h
-            → Records (followed_of (R.capacity self.old.recorder) self.old.name h leader.now id at (decision_of self.old.name (policy_verdict sys.now self.old.name (notice leader.now id event.now) at h))) h result (R.history self.new.recorder) }
-        ensures counted { OnOk result (self.new.used ≡ self.old.used + 1) }
-        ensures uncounted { OnErr result (self.new.used ≡ self.old.used) }
+        requires free { (used_of self.old) < (turns_of self.old) }
+        requires next { IfSome (R.history (recorder_of self.old)) (λ h. id ≡ tracked_in h leader.now + 1) }
+        ensures records { (h : List Recording) → R.history (recorder_of self.old) ≡ Some h
+            → Records (followed_of (R.capacity (recorder_of self.old)) (name_of self.old) h leader.now id at (decision_of (name_of self.old) (policy_verdict sys.now (name_of self.old) (notice leader.now id event.now) at h))) h result (R.history (recorder_of self.new)) }
+        ensures counted { OnOk result ((used_of self.new) ≡ (used_of self.old) + 1) }
+        ensures uncounted { OnErr result ((used_of self.new) ≡ (used_of self.old)) }
         ensures same { Stays R.capacity R.snapshots R.faults self.old self.new }
-        ensures failed { IsErrOf result RunFault.Recorder → Rose (R.faults self.old.recorder) (R.faults self.new.recorder) }
+        ensures failed { IsErrOf result RunFault.Recorder → Rose (R.faults (recorder_of self.old)) (R.faults (recorder_of self.new)) }
     {
         let events = match self.follow(alloc, sys, leader, id, event, at) {
             Ok(events) => events,
@@ -467,15 +523,15 @@ impl<R: ProcessRecorder> Application<R> {
         at: Moment,
     ) -> Result<StoredEvents, RunFault>
         requires checked { IsCheckedSystem sys.now }
-        requires app { IsTrue (is_some (app_named sys.now.apps self.old.name)) }
+        requires app { IsTrue (is_some (app_named sys.now.apps (name_of self.old))) }
         requires notice { IsNotice sys.now (notice leader.now id event.now) }
-        ensures decides { (h : List Recording) → R.history self.old.recorder ≡ Some h
-            → Decides self.old.name h leader.now id (decision_of self.old.name (policy_verdict sys.now self.old.name (notice leader.now id event.now) at h)) result }
+        ensures decides { (h : List Recording) → R.history (recorder_of self.old) ≡ Some h
+            → Decides (name_of self.old) h leader.now id (decision_of (name_of self.old) (policy_verdict sys.now (name_of self.old) (notice leader.now id event.now) at h)) result }
         ensures small { IfOk result (λ es. All (λ e. e.originator_version < 2 ^ 63) es) }
-        ensures follows { (h : List Recording) → R.history self.old.recorder ≡ Some h → IfOk result (λ es. first_conflict (log h) es ≡ None) }
+        ensures follows { (h : List Recording) → R.history (recorder_of self.old) ≡ Some h → IfOk result (λ es. first_conflict (log h) es ≡ None) }
         ensures faults { IfErr result MayRefuse }
         ensures same { IsSame R.history R.capacity R.snapshots R.faults self.old self.new }
-        ensures failed { IsErrOf result RunFault.Recorder → Rose (R.faults self.old.recorder) (R.faults self.new.recorder) }
+        ensures failed { IsErrOf result RunFault.Recorder → Rose (R.faults (recorder_of self.old)) (R.faults (recorder_of self.new)) }
     {
         let verdict = judge_policy(
             alloc,
@@ -498,11 +554,11 @@ impl<R: ProcessRecorder> Application<R> {
         verdict: Verdict,
     ) -> Result<StoredEvents, RunFault>
         requires verdict { IsSmallVerdict verdict }
-        ensures decides { (h : List Recording) → R.history self.old.recorder ≡ Some h → Decides self.old.name h leader.now id (decision_of self.old.name verdict) result }
+        ensures decides { (h : List Recording) → R.history (recorder_of self.old) ≡ Some h → Decides (name_of self.old) h leader.now id (decision_of (name_of self.old) verdict) result }
         ensures events { IfOk result (λ es. verdict ≡ verdicts.Events es) }
         ensures faults { IfErr result MayRefuse }
         ensures same { IsSame R.history R.capacity R.snapshots R.faults self.old self.new }
-        ensures failed { IsErrOf result RunFault.Recorder → Rose (R.faults self.old.recorder) (R.faults self.new.recorder) }
+        ensures failed { IsErrOf result RunFault.Recorder → Rose (R.faults (recorder_of self.old)) (R.faults (recorder_of self.new)) }
     {
         match verdict {
             Verdict::Events(events) => Ok(events),

@@ -2,6 +2,7 @@
 ghost use Rattle.std.specs.Prelude.{◌≡◌, IfOk, IfErr, IfSome, IsErrOf};
 ghost use Rattle.es_model.specs.Causes.{Rose};
 ghost use Rattle.es_expr.specs.Checked.{IsCheckedSystem};
+ghost use Rattle.es_process.specs.Applications.{name_of, recorder_of};
 ghost use Rattle.es_process.specs.Questions.{get_reply, log_reply, tracking_reply, reply_section, section_size};
 ghost use Rattle.es_process.specs.Standing.{IsSame, MayFailToRead};
 
@@ -43,10 +44,10 @@ impl<R: ProcessRecorder> Application<R> {
         version: Option<u64>,
     ) -> Result<Reply, RunFault>
         requires { IsCheckedSystem sys.now }
-        ensures told { IfSome (R.history self.old.recorder) (λ h. IfOk result (λ reply. reply ≡ get_reply sys.now self.old.name id version h)) }
+        ensures told { IfSome (R.history (recorder_of self.old)) (λ h. IfOk result (λ reply. reply ≡ get_reply sys.now (name_of self.old) id version h)) }
         ensures faults { IfErr result MayFailToRead }
         ensures same { IsSame R.history R.capacity R.snapshots R.faults self.old self.new }
-        ensures failed { IsErrOf result RunFault.Recorder → Rose (R.faults self.old.recorder) (R.faults self.new.recorder) }
+        ensures failed { IsErrOf result RunFault.Recorder → Rose (R.faults (recorder_of self.old)) (R.faults (recorder_of self.new)) }
     {
         let mut repository = Repository::new(alloc, 0)?;
         match repository.get(sys, &mut self.recorder, id, version) {
@@ -70,10 +71,10 @@ impl<R: ProcessRecorder> Application<R> {
 
     // Tells the section of its log that a text asks for.
     pub(crate) fn log(&mut self, sys: &System, text: &Text) -> Result<Reply, RunFault>
-        ensures told { IfSome (R.history self.old.recorder) (λ h. IfOk result (λ reply. reply ≡ log_reply sys.now self.old.name text.now h)) }
+        ensures told { IfSome (R.history (recorder_of self.old)) (λ h. IfOk result (λ reply. reply ≡ log_reply sys.now (name_of self.old) text.now h)) }
         ensures faults { IfErr result MayFailToRead }
         ensures same { IsSame R.history R.capacity R.snapshots R.faults self.old self.new }
-        ensures failed { IsErrOf result RunFault.Recorder → Rose (R.faults self.old.recorder) (R.faults self.new.recorder) }
+        ensures failed { IsErrOf result RunFault.Recorder → Rose (R.faults (recorder_of self.old)) (R.faults (recorder_of self.new)) }
     {
         let size = section_size(sys, &self.name);
         match section(&mut self.recorder, text, size) {
@@ -86,10 +87,10 @@ impl<R: ProcessRecorder> Application<R> {
 
     // Tells how far it has come with a leader.
     pub(crate) fn position(&mut self, leader: &Text) -> Result<Reply, RunFault>
-        ensures told { IfSome (R.history self.old.recorder) (λ h. IfOk result (λ reply. reply ≡ tracking_reply leader.now h)) }
+        ensures told { IfSome (R.history (recorder_of self.old)) (λ h. IfOk result (λ reply. reply ≡ tracking_reply leader.now h)) }
         ensures faults { IfErr result MayFailToRead }
         ensures same { IsSame R.history R.capacity R.snapshots R.faults self.old self.new }
-        ensures failed { IsErrOf result RunFault.Recorder → Rose (R.faults self.old.recorder) (R.faults self.new.recorder) }
+        ensures failed { IsErrOf result RunFault.Recorder → Rose (R.faults (recorder_of self.old)) (R.faults (recorder_of self.new)) }
     {
         let position = self.tracked(leader)?;
         Ok(Reply::Tracking { position })

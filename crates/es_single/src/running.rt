@@ -3,6 +3,7 @@ ghost use Rattle.es_model.specs.declared.event.Recording.{Recording};
 ghost use Rattle.es_model.specs.Causes.{Rose};
 ghost use Rattle.es_model.specs.History.{Histories};
 ghost use Rattle.es_model.specs.Rising.{with_item};
+ghost use Rattle.es_process.specs.Applications.{name_of, recorder_of};
 ghost use Rattle.es_process.specs.Drains.{IsOnlyPair};
 ghost use Rattle.es_process.specs.Faults.{end_of};
 ghost use Rattle.es_process.specs.Standing.{Holds, HoldHistories, AllStay, SomeRose, names_in, AreDistinct, IsSame, MayFailToRead};
@@ -27,17 +28,17 @@ fn count_one<R: ProcessRecorder>(
     app: &mut Application<R>,
     counts: &mut Counts,
 ) -> Result<(), RunFault>
-    ensures counted { (h : List Recording) → R.history app.old.recorder ≡ Some h → OnOk result (counts.new ≡ with_item counts.old app.old.name (length h)) }
+    ensures counted { (h : List Recording) → R.history (recorder_of app.old) ≡ Some h → OnOk result (counts.new ≡ with_item counts.old (name_of app.old) (length h)) }
     ensures faults { IfErr result MayFailToRead }
     ensures same { IsSame R.history R.capacity R.snapshots R.faults app.old app.new }
-    ensures recorder { IsErrOf result RunFault.Recorder → Rose (R.faults app.old.recorder) (R.faults app.new.recorder) }
+    ensures recorder { IsErrOf result RunFault.Recorder → Rose (R.faults (recorder_of app.old)) (R.faults (recorder_of app.new)) }
 {
-    let number = match app.recorder.recordings() {
+    let number = match app.recordings() {
         Ok(number) => number,
         Err(CallFault::Failed) => return Err(RunFault::Recorder),
         Err(CallFault::NoMemory) => return Err(RunFault::NoMemory),
     };
-    let Ok(name) = app.name.copy() else {
+    let Ok(name) = app.name().copy() else {
         return Err(RunFault::NoMemory);
     };
     match counts.put(name, number) {

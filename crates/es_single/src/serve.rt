@@ -158,7 +158,7 @@ fn place_of<R>(apps: &[Application<R>], name: &Text) -> usize
     ensures { result ≡ position_or_len (λ app. bytes_eq app.name name.now) apps.now }
 {
     apps.iter()
-        .take_while(|app| app.name.as_str() != name.as_str())
+        .take_while(|app| app.name().as_str() != name.as_str())
         .count()
 }
 

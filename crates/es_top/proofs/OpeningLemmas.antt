@@ -15,6 +15,7 @@ use Rattle.es_io.specs.Readings.{Readings}
 use Rattle.es_recorder.specs.Held.{put, SameElsewhere, ClosesTold, Closes}
 use Rattle.es_process.specs.declared.application.Application.{Application}
 use Rattle.es_process.specs.Answer.{Options}
+use Rattle.es_process.specs.Applications.{name_of, recorder_of}
 use Rattle.es_process.specs.SingleThread.{is_among}
 use Rattle.es_process.specs.Standing.{State, HoldsOne, Holds, HoldHistories, AreDistinct, IsSame, names_in, faults_at, count_of}
 use Rattle.es_process.proofs.AmongLemmas.{among-contains, contains-among, contains-last, is-same, same-name, put-cases, put-here, put-other, same-or-not}
@@ -22,7 +23,7 @@ use Rattle.es_process.proofs.HoldsLemmas.{all-none, contains-at, name-at, same-o
 use Rattle.es_process.proofs.SetLemmas.{get-cases, map-set}
 use Rattle.es_single.specs.Limits.{limits}
 use Rattle.es_single.specs.Runs.{state_of, AreEmpty}
-use Rattle.es_top.specs.Opened.{marked, HoldElsewhere, TellEach, AreHandedOut, AreFresh, AreKept, SomeFailed, IsOpened, AreOpened, IsFrontOfNames, IsOccupied}
+use Rattle.es_top.specs.Opened.{marked, HoldElsewhere, TellEach, AreHandedOut, AreFresh, AreKept, SomeFailed, IsUnused, AreOpened, IsFrontOfNames, IsOccupied}
 use Rattle.es_top.specs.Top.{IsLeft}
 
 -- names
@@ -151,6 +152,51 @@ nil_of (x ∷ xs) none = absurd (omega (arith, none))
 pub names_last : {R : Type 0} (apps : List (Application R)) (a : Application R) → names_in (apps ++ a ∷ []) ≡ names_in apps ++ a.name ∷ []
 names_last {R} apps a = map-append (λ (b : Application R). b.name) apps (a ∷ [])
 
+-- a recorder that was handed out and given back: the stores are as they were
+put-own : {A : Type 0} (h : Name → A) (name : Name) (n : Name) → put h name (h name) n ≡ h n
+put-own h name n = by (same-or-not n name)
+  where
+    by : (n ≡ name) ⊎ (n ≡ name → ⊥) → put h name (h name) n ≡ h n
+    by (inl same) = ap (put h name (h name)) same ∙ put-here h name (h name) ∙ ap h (sym same)
+    by (inr differ) = put-other h name (h name) n differ
+
+pub given_back : {A : Type 0} (name : Name) (held mid : Option (Name → A)) (v : Option A) (out : Bool) (new : Option (Name → A)) → SameElsewhere name held mid → IfSome held (λ h. v ≡ Some (h name)) → out ≡ true → ClosesTold out mid name v new → IsLeft held new
+given_back name None mid v out new same told is closes = tt
+given_back name (Some h) None v out new same told is closes = absurd same
+given_back name (Some h) (Some k) v out new same told is closes =
+    closes_at out (Some k) k name (h name) v new is refl told closes ∙ ap Some (same (h name) ∙ (λ i n. put-own h name n i))
+
+pub marked_back : (out middle last : Name → Bool) (name : Name) → out name ≡ false → ((n : Name) → middle n ≡ put out name true n) → ((n : Name) → last n ≡ put middle name false n) → (n : Name) → last n ≡ out n
+marked_back out middle last name was_in opens closes n = by (same-or-not n name)
+  where
+    by : (n ≡ name) ⊎ (n ≡ name → ⊥) → last n ≡ out n
+    by (inl same) = closes n ∙ ap (put middle name false) same ∙ put-here middle name false ∙ sym was_in ∙ ap out (sym same)
+    by (inr differ) = closes n ∙ put-other middle name false n differ ∙ opens n ∙ put-other out name true n differ
+
+pub marked_out_at : (out middle : Name → Bool) (name : Name) → ((n : Name) → middle n ≡ put out name true n) → middle name ≡ true
+marked_out_at out middle name opens = opens name ∙ put-here out name true
+
+-- stores that hold what they held
+pub handed_still : {A R : Type 0} (tell : R → Option A) (held mid now : Option (Name → A)) (apps : List (Application R)) → AreHandedOut tell held mid apps → IsLeft mid now → AreHandedOut tell held now apps
+handed_still tell held mid now apps x left = record {
+  each = x.each;
+  elsewhere = λ q known. let y = x.elsewhere q known in record { things = y.things; told = subst (λ o. IsLeft o now) y.told left; same = y.same };
+}
+
+-- the last of some applications that are the first of those that are declared stands there under its name
+pub named_there : {R : Type 0} (declared : List App) (apps rest : List (Application R)) (a : Application R) (n : ℕ) → IsFrontOfNames (names_in apps) (map (λ (d : App). d.name) declared) → apps ≡ rest ++ a ∷ [] → n ≡ length rest
+    → slice_get (map (λ (d : App). d.name) declared) n ≡ Some a.name
+named_there declared apps rest a n front is at =
+    (λ i. slice_get (map (λ (d : App). d.name) declared) (at i))
+    ∙ ap (λ (names : List Name). slice_get names (length rest)) (sym front.1 ∙ ap (λ (names : List Name). names ++ front.0) (ap names_in is ∙ names_last rest a) ∙ append_assoc (names_in rest) (a.name ∷ []) front.0)
+    ∙ (λ i. slice_get (names_in rest ++ a.name ∷ front.0) (sym (names_length rest) i))
+    ∙ get-middle (names_in rest) a.name front.0
+
+-- and those before it are the first
+pub front_before : {R : Type 0} (declared : List App) (apps rest : List (Application R)) (a : Application R) → IsFrontOfNames (names_in apps) (map (λ (d : App). d.name) declared) → apps ≡ rest ++ a ∷ [] → IsFrontOfNames (names_in rest) (map (λ (d : App). d.name) declared)
+front_before declared apps rest a front is =
+    (a.name ∷ front.0, sym (append_assoc (names_in rest) (a.name ∷ []) front.0) ∙ ap (λ (names : List Name). names ++ front.0) (sym (ap names_in is ∙ names_last rest a)) ∙ front.1)
+
 -- what some applications leave in the stores, where those left over are still open
 abbrev pub LeaveOpen : {A R : Type 0} → (R → Option A) → (all left : List (Application R)) → (Name → Bool) → (held now : Option (Name → A)) → Type 0
 LeaveOpen {A} {R} tell all left out held now = (base q : Name → A) → AreDistinct (names_in all) → ((n : Name) → is_among n (names_in all) ≡ true → out n ≡ true) → HoldElsewhere (names_in all) base held → TellEach tell q all
@@ -174,9 +220,9 @@ module _ {R : Type 0} (capacity faults : R → ℕ) where
     apart : (is_among a.name (names_in apps) ≡ false) × (out a.name ≡ false)
     apart = unmarked (is_among a.name (names_in apps)) (out a.name) (sym (x.marks a.name) ∙ own_was_in)
 
-    pub opened_more : (last : Name → Bool) → capacity a.recorder ≡ limits.capacity → a.turns ≡ limits.turns → a.used ≡ 0 → faults a.recorder ≡ 0 → ((n : Name) → last n ≡ put middle name true n) → AreOpened capacity faults out last (apps ++ a ∷ [])
-    opened_more last room turns unused fresh marks = record {
-      each = get-push (IsOpened capacity faults) apps a x.each (record { room = room; turns = turns; unused = unused; fresh = fresh });
+    pub opened_more : (last : Name → Bool) → IsUnused capacity faults a → ((n : Name) → last n ≡ put middle name true n) → AreOpened capacity faults out last (apps ++ a ∷ [])
+    opened_more last unused marks = record {
+      each = get-push (IsUnused capacity faults) apps a x.each unused;
       marks = λ n. marks n ∙ ap (λ m. put middle m true n) (sym named) ∙ marks_last out middle (names_in apps) a.name true n (x.marks n) ∙ ap (λ (names : List Name). marked out names true n) (sym (names_last apps a));
       were_in = λ n there. by n (ap (is_among n) (sym (names_last apps a)) ∙ there) (same-or-not n a.name);
     }
@@ -185,11 +231,11 @@ module _ {R : Type 0} (capacity faults : R → ℕ) where
         by n there (inl is) = ap out is ∙ apart.1
         by n there (inr differ) = x.were_in n (sym (among_others (names_in apps) a.name n differ) ∙ there)
 
-    pub handed_more : {A : Type 0} (tell : R → Option A) (held mid now : Option (Name → A)) → AreHandedOut tell held mid apps → IfSome mid (λ q. tell a.recorder ≡ Some (q name)) → SameElsewhere name mid now → AreHandedOut tell held now (apps ++ a ∷ [])
+    pub handed_more : {A : Type 0} (tell : R → Option A) (held mid now : Option (Name → A)) → AreHandedOut tell held mid apps → IfSome mid (λ q. tell (recorder_of a) ≡ Some (q name)) → SameElsewhere name mid now → AreHandedOut tell held now (apps ++ a ∷ [])
     handed_more {A} tell held mid now y told same = record {
       each = λ q known.
-          get-push (λ (b : Application R). tell b.recorder ≡ Some (q b.name)) apps a (y.each q known)
-          (opened_told (names_in apps) a.name q mid (tell a.recorder) (y.elsewhere q known) apart.0 (subst (λ n. IfSome mid (λ k. tell a.recorder ≡ Some (k n))) (sym named) told));
+          get-push (λ (b : Application R). tell (recorder_of b) ≡ Some (q b.name)) apps a (y.each q known)
+          (opened_told (names_in apps) a.name q mid (tell (recorder_of a)) (y.elsewhere q known) apart.0 (subst (λ n. IfSome mid (λ k. tell (recorder_of a) ≡ Some (k n))) (sym named) told));
       elsewhere = λ q known.
           subst (λ (names : List Name). HoldElsewhere names q now) (sym (names_last apps a)) (elsewhere_more (names_in apps) a.name q mid now (y.elsewhere q known) (subst (λ n. SameElsewhere n mid now) (sym named) same));
     }
@@ -265,18 +311,18 @@ module _ {R : Type 0} (history : R → Option (List Recording)) (snapshots : R �
     still_out distinct outs =
         x.marks a.name ∙ (λ i. if not_closed distinct i then false else out a.name) ∙ outs a.name (contains-among a.name (names_in all) (contains-at (names_in all) (length rest) a.name (name-at all (length rest) a at_place)))
 
-    leave_more : {A : Type 0} (tell : R → Option A) (told was new : Option (Name → A)) → LeaveOpen tell all left out told was → ClosesTold (middle a.name) was a.name (tell a.recorder) new → LeaveOpen tell all rest out told new
+    leave_more : {A : Type 0} (tell : R → Option A) (told was new : Option (Name → A)) → LeaveOpen tell all left out told was → ClosesTold (middle a.name) was a.name (tell (recorder_of a)) new → LeaveOpen tell all rest out told new
     leave_more tell told was new earlier closes = λ base q distinct outs elsewhere tells others.
         let y = earlier base q distinct outs elsewhere tells others in
         record {
           things = put y.things a.name (q a.name);
-          told = closes_at (middle a.name) was y.things a.name (q a.name) (tell a.recorder) new (still_out distinct outs) y.told (tells (length rest) a at_place) closes;
+          told = closes_at (middle a.name) was y.things a.name (q a.name) (tell (recorder_of a)) new (still_out distinct outs) y.told (tells (length rest) a at_place) closes;
           same = λ n none. put-cases (λ m v. v ≡ q m) y.things a.name (q a.name) n refl
               (λ differ. y.same n (ap (λ (l : List (Application R)). is_among n (names_in l)) is ∙ ap (is_among n) (names_last rest a) ∙ among_others (names_in rest) a.name n differ ∙ none));
         }
 
-    pub closing_more : (now : Option Histories) (kept_now : Option (Name → List Snapshot)) (last : Name → Bool) (after : ℕ) → ClosesTold (middle a.name) mid a.name (history a.recorder) now → ClosesTold (middle a.name) kept_mid a.name (snapshots a.recorder) kept_now
-        → ((n : Name) → last n ≡ put middle a.name false n) → count ≤ after → (0 < faults a.recorder → Rose count after) → Closing all rest held now kept kept_now out last before after
+    pub closing_more : (now : Option Histories) (kept_now : Option (Name → List Snapshot)) (last : Name → Bool) (after : ℕ) → ClosesTold (middle a.name) mid a.name (history (recorder_of a)) now → ClosesTold (middle a.name) kept_mid a.name (snapshots (recorder_of a)) kept_now
+        → ((n : Name) → last n ≡ put middle a.name false n) → count ≤ after → (0 < faults (recorder_of a) → Rose count after) → Closing all rest held now kept kept_now out last before after
     closing_more now kept_now last after closes keeps again later risen = record {
       closed = a ∷ x.closed;
       parts = parted;
@@ -324,7 +370,7 @@ module _ {R : Type 0} (history : R → Option (List Recording)) (capacity : R �
 
   -- what one of them holds
   pub holds_at : (base : Histories) (options : Options) (readings : Option Readings) (s : State) (old mid : List (Application R)) (i : ℕ) (a : Application R) → AreKept history capacity snapshots faults old mid → Holds history capacity base options old readings s → slice_get mid i ≡ Some a
-      → (history a.recorder ≡ Some (s.histories a.name)) × (slice_get (names_in old) i ≡ Some a.name)
+      → (history (recorder_of a) ≡ Some (s.histories a.name)) × (slice_get (names_in old) i ≡ Some a.name)
   holds_at base options readings s old mid i a x held at = ((((x.holds base options readings s held).each) i a at).told, ap (λ (names : List Name). slice_get names i) (sym x.stay.names) ∙ name-at mid i a at)
 
 -- the first of some applications hold nothing

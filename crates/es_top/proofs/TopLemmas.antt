@@ -12,6 +12,7 @@ use Rattle.es_io.specs.Readings.{Readings}
 use Rattle.es_lines.specs.declared.ends.End.{End}
 use Rattle.es_lines.specs.declared.ends.End.TheVariants as end
 use Rattle.es_io.specs.Remains.{MayHold}
+use Rattle.es_process.specs.Applications.{recorder_of}
 use Rattle.es_process.specs.declared.application.Application.{Application}
 use Rattle.es_process.specs.Drains.{IsOnlyPair, AreApps}
 use Rattle.es_process.specs.declared.draining.Pair.{Pair}
@@ -131,22 +132,22 @@ pub left_is : {A : Type 0} (h : Name → A) (held new : Option (Name → A)) →
 left_is h held new told left = subst (λ o. IsLeft o new) told left
 
 -- applications that have the same names and tell the same tell what was opened
-pub told_still : {A R : Type 0} (tell : R → Option A) (q : Name → A) (old new : List (Application R)) → names_in new ≡ names_in old → map (λ (a : Application R). tell a.recorder) new ≡ map (λ (a : Application R). tell a.recorder) old → TellEach tell q old → TellEach tell q new
+pub told_still : {A R : Type 0} (tell : R → Option A) (q : Name → A) (old new : List (Application R)) → names_in new ≡ names_in old → map (λ (a : Application R). tell (recorder_of a)) new ≡ map (λ (a : Application R). tell (recorder_of a)) old → TellEach tell q old → TellEach tell q new
 told_still {A} {R} tell q old new named told each i a is = at (slice_get old i) refl
   where
     name_at : Some a.name ≡ option_map (λ (x : Application R). x.name) (slice_get old i)
     name_at = sym (slice_get-map (λ (x : Application R). x.name) new i ∙ ap (option_map (λ (x : Application R). x.name)) is) ∙ ap (λ xs. slice_get xs i) named ∙ slice_get-map (λ (x : Application R). x.name) old i
 
-    told_at : Some (tell a.recorder) ≡ option_map (λ (x : Application R). tell x.recorder) (slice_get old i)
-    told_at = sym (slice_get-map (λ (x : Application R). tell x.recorder) new i ∙ ap (option_map (λ (x : Application R). tell x.recorder)) is) ∙ ap (λ xs. slice_get xs i) told ∙ slice_get-map (λ (x : Application R). tell x.recorder) old i
+    told_at : Some (tell (recorder_of a)) ≡ option_map (λ (x : Application R). tell (recorder_of x)) (slice_get old i)
+    told_at = sym (slice_get-map (λ (x : Application R). tell (recorder_of x)) new i ∙ ap (option_map (λ (x : Application R). tell (recorder_of x))) is) ∙ ap (λ xs. slice_get xs i) told ∙ slice_get-map (λ (x : Application R). tell (recorder_of x)) old i
 
-    at : (o : Option (Application R)) → slice_get old i ≡ o → tell a.recorder ≡ Some (q a.name)
+    at : (o : Option (Application R)) → slice_get old i ≡ o → tell (recorder_of a) ≡ Some (q a.name)
     at None none = let clash : Some a.name ≡ None = name_at ∙ ap (option_map (λ (x : Application R). x.name)) none in absurd (cc clash)
     at (Some b) some =
         let names : Some a.name ≡ Some b.name = name_at ∙ ap (option_map (λ (x : Application R). x.name)) some in
-        let tells : Some (tell a.recorder) ≡ Some (tell b.recorder) = told_at ∙ ap (option_map (λ (x : Application R). tell x.recorder)) some in
+        let tells : Some (tell (recorder_of a)) ≡ Some (tell (recorder_of b)) = told_at ∙ ap (option_map (λ (x : Application R). tell (recorder_of x))) some in
         let same : a.name ≡ b.name = cc names in
-        let tell_same : tell a.recorder ≡ tell b.recorder = cc tells in
+        let tell_same : tell (recorder_of a) ≡ tell (recorder_of b) = cc tells in
         tell_same ∙ each i b some ∙ ap (λ n. Some (q n)) (sym same)
 
 -- what closing asks of the applications after a run

@@ -10,6 +10,7 @@ use Rattle.es_io.specs.Readings.{Readings}
 use Rattle.es_decl.specs.Pairs.{pairs_of}
 use Rattle.es_process.specs.declared.application.Application.{Application}
 use Rattle.es_process.specs.Answer.{Options}
+use Rattle.es_process.specs.Applications.{name_of, recorder_of, turns_of, used_of}
 use Rattle.es_process.specs.Drains.{IsOnlyPair}
 use Rattle.es_process.specs.SingleThread.{is_among}
 use Rattle.es_process.specs.Standing.{State, Holds, AllStay, faults_at, names_in}
@@ -31,7 +32,7 @@ pub record HoldElsewhere {A : Type 0} (names : List Name) (base : Name → A) (h
 
 -- the recorder of each application tells what this says of its name
 abbrev pub TellEach : {A R : Type 0} → (R → Option A) → (Name → A) → List (Application R) → Type 0
-TellEach {A} {R} tell q apps = (i : ℕ) (a : Application R) → slice_get apps i ≡ Some a → tell a.recorder ≡ Some (q a.name)
+TellEach {A} {R} tell q apps = (i : ℕ) (a : Application R) → slice_get apps i ≡ Some a → tell (recorder_of a) ≡ Some (q (name_of a))
 
 -- the recorders of some applications tell what the stores held, which now hold the rest
 pub record AreHandedOut {A R : Type 0} (tell : R → Option A) (held now : Option (Name → A)) (apps : List (Application R)) : Type 0 where
@@ -47,15 +48,15 @@ abbrev pub SomeFailed : {R : Type 0} → (R → ℕ) → List (Application R) �
 SomeFailed faults apps = (i : ℕ) × (0 < faults_at faults apps i)
 
 -- an application as it is opened: nothing has happened in this run
-pub record IsOpened {R : Type 0} (capacity faults : R → ℕ) (a : Application R) : Type 0 where
-  pub room : capacity a.recorder ≡ limits.capacity
-  pub turns : a.turns ≡ limits.turns
-  pub unused : a.used ≡ 0
-  pub fresh : faults a.recorder ≡ 0
+pub record IsUnused {R : Type 0} (capacity faults : R → ℕ) (a : Application R) : Type 0 where
+  pub room : capacity (recorder_of a) ≡ limits.capacity
+  pub turns : turns_of a ≡ limits.turns
+  pub unused : used_of a ≡ 0
+  pub fresh : faults (recorder_of a) ≡ 0
 
 -- these applications were opened, and no others
 pub record AreOpened {R : Type 0} (capacity faults : R → ℕ) (out out_now : Name → Bool) (apps : List (Application R)) : Type 0 where
-  pub each : (i : ℕ) (a : Application R) → slice_get apps i ≡ Some a → IsOpened capacity faults a
+  pub each : (i : ℕ) (a : Application R) → slice_get apps i ≡ Some a → IsUnused capacity faults a
   pub marks : (n : Name) → out_now n ≡ marked out (names_in apps) true n
   pub were_in : (n : Name) → is_among n (names_in apps) ≡ true → out n ≡ false
 

@@ -11,13 +11,14 @@ ghost use Rattle.es_io.specs.Readings.{Readings};
 ghost use Rattle.es_decl.specs.Pairs.{pairs_of};
 ghost use Rattle.es_recorder.specs.Held.{put, SameElsewhere, ClosesTold};
 ghost use Rattle.es_process.specs.Answer.{Options};
+ghost use Rattle.es_process.specs.Applications.{IsOpened, name_of, recorder_of};
 ghost use Rattle.es_process.specs.Drains.{IsPairOf};
 ghost use Rattle.es_process.specs.SingleThread.{is_among};
 ghost use Rattle.es_process.specs.Standing.{State, Holds, HoldHistories, IsSame, SomeRose, AreDistinct, names_in};
 ghost use Rattle.es_process.specs.SystemRules.{app_names};
 ghost use Rattle.es_single.specs.Limits.{limits};
 ghost use Rattle.es_single.specs.Runs.{state_of};
-ghost use Rattle.es_top.specs.Opened.{AreKept, AreOpened, AreHandedOut, IsFrontOfNames, marked, HoldElsewhere, TellEach, AreFresh, SomeFailed, IsOccupiedTest, has_interval as has_interval_of, IsPairing};
+ghost use Rattle.es_top.specs.Opened.{AreKept, AreOpened, AreHandedOut, IsFrontOfNames, marked, HoldElsewhere, TellEach, AreFresh, IsUnused, SomeFailed, IsOccupiedTest, has_interval as has_interval_of, IsPairing};
 ghost use Rattle.es_top.specs.Top.{IsLeft};
 
 use es_decl::pairs;
@@ -93,53 +94,62 @@ pub fn pairing_of(alloc: Global, sys: &System) -> Result<Pairing, NoMemory>
     }
 }
 
+// The application of a recorder that the stores handed out. Where memory is short they are given it back.
+fn begin_application<M: Stores>(
+    stores: &mut M,
+    name: &Text,
+    recorder: M::R,
+) -> Result<Application<M::R>, NoMemory>
+    ensures begun { IfOk result (IsOpened name.now recorder limits.turns) }
+    ensures still { OnOk result (stores.new ≡ stores.old) }
+    ensures closed { OnErr result (ClosesTold (M.out stores.old name.now) (M.held stores.old) name.now (M.R.history recorder) (M.held stores.new)) }
+    ensures closed_snapshots { OnErr result (ClosesTold (M.out stores.old name.now) (M.snapshots stores.old) name.now (M.R.snapshots recorder) (M.snapshots stores.new)) }
+    ensures in_again { OnErr result ((other : Name) → M.out stores.new other ≡ put (M.out stores.old) name.now false other) }
+    ensures later { M.faults stores.old ≤ M.faults stores.new }
+{
+    match Application::open(name, recorder, DEFAULT_TURNS) {
+        Ok(app) => Ok(app),
+        Err(unopened) => {
+            stores.close(name, unopened.0);
+            Err(unopened.1)
+        }
+    }
+}
+
 // Opens an application of the stores.
 fn open_application<M: Stores>(stores: &mut M, name: &Text) -> Result<Application<M::R>, CallFault>
-    ensures named { IfOk result (λ app. app.name ≡ name.now) }
-    ensures opened { IfSome (M.held stores.old) (λ h. IfOk result (λ app. M.R.history app.recorder ≡ Some (h name.now))) }
-    ensures opened_snapshots { IfSome (M.snapshots stores.old) (λ q. IfOk result (λ app. M.R.snapshots app.recorder ≡ Some (q name.now))) }
-    ensures capacity { IfOk result (λ app. M.R.capacity app.recorder ≡ limits.capacity) }
-    ensures turns { IfOk result (λ app. app.turns ≡ limits.turns) }
-    ensures unused { IfOk result (λ app. app.used ≡ 0) }
-    ensures fresh { IfOk result (λ app. M.R.faults app.recorder ≡ 0) }
+    ensures named { IfOk result (λ app. name_of app ≡ name.now) }
+    ensures opened { IfSome (M.held stores.old) (λ h. IfOk result (λ app. M.R.history (recorder_of app) ≡ Some (h name.now))) }
+    ensures opened_snapshots { IfSome (M.snapshots stores.old) (λ q. IfOk result (λ app. M.R.snapshots (recorder_of app) ≡ Some (q name.now))) }
+    ensures limited { IfOk result (IsUnused M.R.capacity M.R.faults) }
     ensures out { OnOk result ((other : Name) → M.out stores.new other ≡ put (M.out stores.old) name.now true other) }
     ensures was_in { OnOk result (M.out stores.old name.now ≡ false) }
-    ensures others { SameElsewhere name.now (M.held stores.old) (M.held stores.new) }
-    ensures other_snapshots { SameElsewhere name.now (M.snapshots stores.old) (M.snapshots stores.new) }
-    ensures refused { OnErr result (M.held stores.new ≡ M.held stores.old) }
-    ensures refused_snapshots { OnErr result (M.snapshots stores.new ≡ M.snapshots stores.old) }
+    ensures others { OnOk result (SameElsewhere name.now (M.held stores.old) (M.held stores.new)) }
+    ensures other_snapshots { OnOk result (SameElsewhere name.now (M.snapshots stores.old) (M.snapshots stores.new)) }
+    ensures refused { OnErr result (IsLeft (M.held stores.old) (M.held stores.new)) }
+    ensures refused_snapshots { OnErr result (IsLeft (M.snapshots stores.old) (M.snapshots stores.new)) }
     ensures still { OnErr result ((other : Name) → M.out stores.new other ≡ M.out stores.old other) }
     ensures cause { CallHasCause (M.faults stores.old) (M.faults stores.new) result }
 {
-    let Ok(own) = name.copy() else {
-        return Err(CallFault::NoMemory);
-    };
-    match stores.open(None, &own, MOST_CAPACITY) {
-        Ok(recorder) => Ok(Application {
-            name: own,
-            recorder,
-            turns: DEFAULT_TURNS,
-            used: 0,
-        }),
+    match stores.open(None, name, MOST_CAPACITY) {
+        Ok(recorder) => match begin_application(stores, name, recorder) {
+            Ok(app) => Ok(app),
+            Err(NoMemory) => Err(CallFault::NoMemory),
+        },
         Err(fault) => Err(fault),
     }
 }
 
-// Puts an application back into the stores.
-fn close_application<M: Stores>(stores: &mut M, app: Application<M::R>)
-    ensures closed { ClosesTold (M.out stores.old app.name) (M.held stores.old) app.name (M.R.history app.recorder) (M.held stores.new) }
-    ensures closed_snapshots { ClosesTold (M.out stores.old app.name) (M.snapshots stores.old) app.name (M.R.snapshots app.recorder) (M.snapshots stores.new) }
-    ensures in_again { (other : Name) → M.out stores.new other ≡ put (M.out stores.old) app.name false other }
+// Puts the recorder of an application back into the stores, under the name by which it was opened.
+fn close_application<M: Stores>(stores: &mut M, name: &Text, app: Application<M::R>)
+    requires { name.now ≡ name_of app }
+    ensures closed { ClosesTold (M.out stores.old (name_of app)) (M.held stores.old) (name_of app) (M.R.history (recorder_of app)) (M.held stores.new) }
+    ensures closed_snapshots { ClosesTold (M.out stores.old (name_of app)) (M.snapshots stores.old) (name_of app) (M.R.snapshots (recorder_of app)) (M.snapshots stores.new) }
+    ensures in_again { (other : Name) → M.out stores.new other ≡ put (M.out stores.old) (name_of app) false other }
     ensures later { M.faults stores.old ≤ M.faults stores.new }
-    ensures risen { 0 < M.R.faults app.recorder → Rose (M.faults stores.old) (M.faults stores.new) }
+    ensures risen { 0 < M.R.faults (recorder_of app) → Rose (M.faults stores.old) (M.faults stores.new) }
 {
-    let Application {
-        name,
-        recorder,
-        turns: _,
-        used: _,
-    } = app;
-    stores.close(&name, recorder);
+    stores.close(name, app.close());
 }
 
 // Opens applications in order, into a vector with room for all. Where one can't be opened, it has those before.
@@ -192,14 +202,15 @@ pub fn open_all<M: Stores>(
     match open_each(stores, sys.apps.as_slice(), &mut apps) {
         Ok(()) => Ok(apps),
         Err(fault) => {
-            close_all(stores, apps);
+            close_all(stores, sys.apps.as_slice(), apps);
             Err(fault)
         }
     }
 }
 
-/// Closes all applications.
-pub fn close_all<M: Stores>(stores: &mut M, mut apps: Vec<Application<M::R>>)
+/// Closes applications, which are the first of those that are declared.
+pub fn close_all<M: Stores>(stores: &mut M, declared: &[App], mut apps: Vec<Application<M::R>>)
+    requires front { IsFrontOfNames (names_in apps.items) (map (λ a. a.name) declared.now) }
     ensures closed { (base : Histories) (h : Histories) → AreDistinct (names_in apps.items) → ((n : Name) → is_among n (names_in apps.items) ≡ true → M.out stores.old n ≡ true)
         → HoldElsewhere (names_in apps.items) base (M.held stores.old) → HoldHistories M.R.history base apps.items h → M.held stores.new ≡ Some h }
     ensures closed_snapshots { (base : Name → List Snapshot) (q : Name → List Snapshot) → AreDistinct (names_in apps.items) → ((n : Name) → is_among n (names_in apps.items) ≡ true → M.out stores.old n ≡ true)
@@ -209,18 +220,18 @@ pub fn close_all<M: Stores>(stores: &mut M, mut apps: Vec<Application<M::R>>)
     ensures risen { SomeFailed M.R.faults apps.items → Rose (M.faults stores.old) (M.faults stores.new) }
 {
     while let Some(app) = apps.pop() {
-        close_application(stores, app);
+        close_application(stores, &declared[apps.len()].name, app);
     }
     apps.destroy_empty();
 }
 
 // Whether one application holds a recording.
 fn is_used<R: ProcessRecorder>(app: &mut Application<R>) -> Result<bool, CallFault>
-    ensures told { (h : List Recording) → R.history app.old.recorder ≡ Some h → IfOk result (λ used. used ≡ nat_lt 0 (length h)) }
+    ensures told { (h : List Recording) → R.history (recorder_of app.old) ≡ Some h → IfOk result (λ used. used ≡ nat_lt 0 (length h)) }
     ensures same { IsSame R.history R.capacity R.snapshots R.faults app.old app.new }
-    ensures cause { CallHasCause (R.faults app.old.recorder) (R.faults app.new.recorder) result }
+    ensures cause { CallHasCause (R.faults (recorder_of app.old)) (R.faults (recorder_of app.new)) result }
 {
-    match app.recorder.recordings() {
+    match app.recordings() {
         Ok(count) => Ok(0 < count),
         Err(fault) => Err(fault),
     }

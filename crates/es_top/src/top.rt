@@ -102,7 +102,7 @@ fn run_pair<S: Source, T: Sink, M: Stores, C: Clock>(
     match open_all(alloc, stores, sys) {
         Ok(mut apps) => {
             let result = run_opened(alloc, sys, pair, lines, out, apps.as_mut_slice(), clock);
-            close_all(stores, apps);
+            close_all(stores, sys.apps.as_slice(), apps);
             result
         }
         Err(CallFault::Failed) => Ok(End::Recorder),

@@ -1,25 +1,27 @@
 use Rattle.std.proofs.Common.{◌≡◌, length, rules}
-use Rattle.es_top.proofs.OpeningLemmas.{closing_none, closing_more, closed_holds, closed_keeps}
+use Rattle.es_top.proofs.OpeningLemmas.{closing_none, closing_more, closed_holds, closed_keeps, front_before, named_there}
 use Rattle.es_top.proofs.opening.close_all.Goals as goal
 
 pub loop-app-init : goal.loop-app-init
-loop-app-init g c = closing_none g.M.R.AggregateRecorder.history g.M.R.AggregateRecorder.snapshots g.M.R.AggregateRecorder.faults c.args.apps.items (g.M.Stores.held c.args.stores.now) (g.M.Stores.snapshots c.args.stores.now) (g.M.Stores.out c.args.stores.now) (g.M.Stores.faults c.args.stores.now)
+loop-app-init g c = record { front = c.requires.front; closing = closing_none g.M.R.AggregateRecorder.history g.M.R.AggregateRecorder.snapshots g.M.R.AggregateRecorder.faults c.args.apps.items (g.M.Stores.held c.args.stores.now) (g.M.Stores.snapshots c.args.stores.now) (g.M.Stores.out c.args.stores.now) (g.M.Stores.faults c.args.stores.now) }
 
 pub loop-app-preserved : goal.loop-app-preserved
-loop-app-preserved g c =
-    closing_more g.M.R.AggregateRecorder.history g.M.R.AggregateRecorder.snapshots g.M.R.AggregateRecorder.faults c.args.apps.items c.loop-app.apps.items c.pop.new.self.items c.in-Some.app (g.M.Stores.held c.args.stores.now) (g.M.Stores.held c.loop-app.stores) (g.M.Stores.snapshots c.args.stores.now) (g.M.Stores.snapshots c.loop-app.stores)
-    (g.M.Stores.out c.args.stores.now) (g.M.Stores.out c.loop-app.stores) (g.M.Stores.faults c.args.stores.now) (g.M.Stores.faults c.loop-app.stores) c.loop-app.invariant (c.in-Some.ensures {u = tt}).items
+loop-app-preserved g c = record {
+  front = front_before c.args.declared.now c.loop-app.apps.items c.pop.new.self.items c.in-Some.app c.loop-app.invariant.front (c.in-Some.ensures {u = tt}).items;
+  closing = closing_more g.M.R.AggregateRecorder.history g.M.R.AggregateRecorder.snapshots g.M.R.AggregateRecorder.faults c.args.apps.items c.loop-app.apps.items c.pop.new.self.items c.in-Some.app (g.M.Stores.held c.args.stores.now) (g.M.Stores.held c.loop-app.stores) (g.M.Stores.snapshots c.args.stores.now) (g.M.Stores.snapshots c.loop-app.stores)
+    (g.M.Stores.out c.args.stores.now) (g.M.Stores.out c.loop-app.stores) (g.M.Stores.faults c.args.stores.now) (g.M.Stores.faults c.loop-app.stores) c.loop-app.invariant.closing (c.in-Some.ensures {u = tt}).items
     (g.M.Stores.held c.close_application.new.stores) (g.M.Stores.snapshots c.close_application.new.stores) (g.M.Stores.out c.close_application.new.stores) (g.M.Stores.faults c.close_application.new.stores) c.close_application.ensures.closed c.close_application.ensures.closed_snapshots c.close_application.ensures.in_again
-    c.close_application.ensures.later c.close_application.ensures.risen
+    c.close_application.ensures.later c.close_application.ensures.risen;
+}
 
 pub returns-clause-closed : goal.returns-clause-closed
 returns-clause-closed g c =
     let none : length c.loop-app.apps.items ≡ 0 = search rules in
     closed_holds g.M.R.AggregateRecorder.history g.M.R.AggregateRecorder.snapshots g.M.R.AggregateRecorder.faults c.args.apps.items c.loop-app.apps.items (g.M.Stores.held c.args.stores.now) (g.M.Stores.held c.loop-app.stores) (g.M.Stores.snapshots c.args.stores.now) (g.M.Stores.snapshots c.loop-app.stores)
-    (g.M.Stores.out c.args.stores.now) (g.M.Stores.out c.loop-app.stores) (g.M.Stores.faults c.args.stores.now) (g.M.Stores.faults c.loop-app.stores) c.loop-app.invariant none
+    (g.M.Stores.out c.args.stores.now) (g.M.Stores.out c.loop-app.stores) (g.M.Stores.faults c.args.stores.now) (g.M.Stores.faults c.loop-app.stores) c.loop-app.invariant.closing none
 
 pub returns-clause-closed_snapshots : goal.returns-clause-closed_snapshots
 returns-clause-closed_snapshots g c =
     let none : length c.loop-app.apps.items ≡ 0 = search rules in
     closed_keeps g.M.R.AggregateRecorder.history g.M.R.AggregateRecorder.snapshots g.M.R.AggregateRecorder.faults c.args.apps.items c.loop-app.apps.items (g.M.Stores.held c.args.stores.now) (g.M.Stores.held c.loop-app.stores) (g.M.Stores.snapshots c.args.stores.now) (g.M.Stores.snapshots c.loop-app.stores)
-    (g.M.Stores.out c.args.stores.now) (g.M.Stores.out c.loop-app.stores) (g.M.Stores.faults c.args.stores.now) (g.M.Stores.faults c.loop-app.stores) c.loop-app.invariant none
+    (g.M.Stores.out c.args.stores.now) (g.M.Stores.out c.loop-app.stores) (g.M.Stores.faults c.args.stores.now) (g.M.Stores.faults c.loop-app.stores) c.loop-app.invariant.closing none

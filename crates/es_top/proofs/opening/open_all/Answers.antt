@@ -23,3 +23,6 @@ pub returns-in-Err-clause-refused_snapshots : goal.returns-in-Err-clause-refused
 returns-in-Err-clause-refused_snapshots g c =
     opened_left g.M.R.AggregateRecorder.capacity g.M.R.AggregateRecorder.faults (g.M.Stores.out c.args.stores.now) (g.M.Stores.out c.open_each.new.stores) c.open_each.new.opened.items c.open_each.ensures.opened g.M.R.AggregateRecorder.snapshots (g.M.Stores.snapshots c.args.stores.now) (g.M.Stores.snapshots c.open_each.new.stores) c.open_each.ensures.snapshots (g.M.Stores.snapshots c.close_all.new.stores) c.close_all.ensures.closed_snapshots
     (distinct_front (names_in c.open_each.new.opened.items) (map (λ (a : App). a.name) c.as_slice.result.now) c.open_each.ensures.front (subst (λ (apps : List App). AreDistinct (map (λ (a : App). a.name) apps)) (sym c.as_slice.ensures) c.requires))
+
+pub close_all-requires : goal.close_all-requires
+close_all-requires g c = record { front = c.open_each.ensures.front }

@@ -1,4 +1,5 @@
-use Rattle.std.proofs.Common.{inr, ◌≡◌, ◌∙◌, ◌++◌, take, drop, length, List, Option, Some, refl, sym, ap, subst}
+use Rattle.std.proofs.Common.{inr, ◌≡◌, ◌∙◌, ◌++◌, take, drop, length, map, List, [], append-nil, Option, Some, refl, sym, ap, subst}
+use Rattle.es_model.specs.declared.declaration.App.{App}
 use Rattle.es_model.specs.declared.snapshot.Snapshot.{Snapshot}
 use Rattle.es_model.specs.History.{Histories}
 use Rattle.es_model.specs.Values.{Name}
@@ -79,3 +80,6 @@ returns-in-Err-Failed-clause-bound g c = took_nothing (g.S.Source.left c.args.li
 
 pub returns-in-Err-NoMemory-clause-bound : goal.returns-in-Err-NoMemory-clause-bound
 returns-in-Err-NoMemory-clause-bound g c = took_nothing (g.S.Source.left c.args.lines.now) _ refl
+
+pub close_all-requires : goal.close_all-requires
+close_all-requires g c = record { front = ([], append-nil _ ∙ names_are g c ∙ sym (ap (λ (apps : List App). map (λ (a : App). a.name) apps) c.as_slice.ensures)) }
