@@ -183,14 +183,19 @@ handed_still tell held mid now apps x left = record {
   elsewhere = λ q known. let y = x.elsewhere q known in record { things = y.things; told = subst (λ o. IsLeft o now) y.told left; same = y.same };
 }
 
+named_at : (declared : List App) (n : ℕ) (x : Name) (d : App) → slice_get (map (λ (a : App). a.name) declared) n ≡ Some x → (get_or declared n d).name ≡ x
+named_at [] n x d at = absurd (cc at)
+named_at (y ∷ ys) zero x d at = let same : y.name ≡ x = cc at in same
+named_at (y ∷ ys) (suc n) x d at = named_at ys n x d at
+
 -- the last of some applications that are the first of those that are declared stands there under its name
-pub named_there : {R : Type 0} (declared : List App) (apps rest : List (Application R)) (a : Application R) (n : ℕ) → IsFrontOfNames (names_in apps) (map (λ (d : App). d.name) declared) → apps ≡ rest ++ a ∷ [] → n ≡ length rest
-    → slice_get (map (λ (d : App). d.name) declared) n ≡ Some a.name
-named_there declared apps rest a n front is at =
-    (λ i. slice_get (map (λ (d : App). d.name) declared) (at i))
+pub named_there : {R : Type 0} (declared : List App) (apps rest : List (Application R)) (a : Application R) (n : ℕ) (other : App) → IsFrontOfNames (names_in apps) (map (λ (d : App). d.name) declared) → apps ≡ rest ++ a ∷ [] → n ≡ length rest
+    → (get_or declared n other).name ≡ a.name
+named_there declared apps rest a n other front is at = named_at declared n a.name other
+    ((λ i. slice_get (map (λ (d : App). d.name) declared) (at i))
     ∙ ap (λ (names : List Name). slice_get names (length rest)) (sym front.1 ∙ ap (λ (names : List Name). names ++ front.0) (ap names_in is ∙ names_last rest a) ∙ append_assoc (names_in rest) (a.name ∷ []) front.0)
     ∙ (λ i. slice_get (names_in rest ++ a.name ∷ front.0) (sym (names_length rest) i))
-    ∙ get-middle (names_in rest) a.name front.0
+    ∙ get-middle (names_in rest) a.name front.0)
 
 -- and those before it are the first
 pub front_before : {R : Type 0} (declared : List App) (apps rest : List (Application R)) (a : Application R) → IsFrontOfNames (names_in apps) (map (λ (d : App). d.name) declared) → apps ≡ rest ++ a ∷ [] → IsFrontOfNames (names_in rest) (map (λ (d : App). d.name) declared)

@@ -13,9 +13,6 @@ returns-in-Ok-read_document-clause-bound g c = document_named _ c.args.name.now 
 pub returns-in-Err-Failed-clause-bound : goal.returns-in-Err-Failed-clause-bound
 returns-in-Err-Failed-clause-bound g c = document_named _ c.args.name.now c.in-Ok.title _ _ (c.in-Ok.ensures {u = tt}) c.read_document.ensures.bound
 
-pub returns-in-Err-NoMemory-clause-bound : goal.returns-in-Err-NoMemory-clause-bound
-returns-in-Err-NoMemory-clause-bound g c = document_named _ c.args.name.now c.in-Ok.title _ _ (c.in-Ok.ensures {u = tt}) c.read_document.ensures.bound
-
 pub returns-then-eq-clause-bound : goal.returns-then-eq-clause-bound
 returns-then-eq-clause-bound g c = document_left _ _ _ _ refl
 

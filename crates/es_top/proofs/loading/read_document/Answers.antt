@@ -8,4 +8,4 @@ pub returns-in-Ok-clause-bound : goal.returns-in-Ok-clause-bound
 returns-in-Ok-clause-bound g c = document_taken _ _ _ (g.D.Source.left c.begin.new.self) _ _ (c.in-Ok.ensures {u = tt}).begins c.read_rest.ensures.bound
 
 pub returns-in-Err-clause-bound : goal.returns-in-Err-clause-bound
-returns-in-Err-clause-bound g c = document_left _ _ _ _ (c.in-Err.ensures {u = tt})
+returns-in-Err-clause-bound g c = document_left _ _ _ _ (c.in-Err.ensures {u = tt}).refused

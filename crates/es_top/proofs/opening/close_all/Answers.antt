@@ -25,3 +25,8 @@ returns-clause-closed_snapshots g c =
     let none : length c.loop-app.apps.items ≡ 0 = search rules in
     closed_keeps g.M.R.AggregateRecorder.history g.M.R.AggregateRecorder.snapshots g.M.R.AggregateRecorder.faults c.args.apps.items c.loop-app.apps.items (g.M.Stores.held c.args.stores.now) (g.M.Stores.held c.loop-app.stores) (g.M.Stores.snapshots c.args.stores.now) (g.M.Stores.snapshots c.loop-app.stores)
     (g.M.Stores.out c.args.stores.now) (g.M.Stores.out c.loop-app.stores) (g.M.Stores.faults c.args.stores.now) (g.M.Stores.faults c.loop-app.stores) c.loop-app.invariant.closing none
+
+pub close_application-requires : goal.close_application-requires
+close_application-requires g c =
+    let last : c.len.result ≡ length c.pop.new.self.items = search rules in
+    named_there c.args.declared.now c.loop-app.apps.items c.pop.new.self.items c.in-Some.app c.len.result c.index-declared-len.result c.loop-app.invariant.front (c.in-Some.ensures {u = tt}).items last

@@ -1,6 +1,7 @@
-use Rattle.std.proofs.Common.{List, map, sym, subst}
+use Rattle.std.proofs.Common.{◌∙◌, List, map, sym, subst}
 use Rattle.es_model.specs.declared.declaration.App.{App}
 use Rattle.es_process.specs.Standing.{AreDistinct, names_in}
+use Rattle.es_top.specs.Opened.{IsFrontOfNames}
 use Rattle.es_top.proofs.OpeningLemmas.{distinct_front, opened_fresh, opened_holds, opened_left}
 use Rattle.es_top.proofs.opening.open_all.Goals as goal
 
@@ -25,4 +26,4 @@ returns-in-Err-clause-refused_snapshots g c =
     (distinct_front (names_in c.open_each.new.opened.items) (map (λ (a : App). a.name) c.as_slice.result.now) c.open_each.ensures.front (subst (λ (apps : List App). AreDistinct (map (λ (a : App). a.name) apps)) (sym c.as_slice.ensures) c.requires))
 
 pub close_all-requires : goal.close_all-requires
-close_all-requires g c = record { front = c.open_each.ensures.front }
+close_all-requires g c = record { front = subst (λ (apps : List App). IsFrontOfNames (names_in c.open_each.new.opened.items) (map (λ (a : App). a.name) apps)) (c.as_slice.ensures ∙ sym c.as_slice-in-Err.ensures) c.open_each.ensures.front }
