@@ -196,3 +196,8 @@ beyond_several sys none several = ap (λ b. b || has_several sys) none ∙ sever
 -- no class wants snapshots and there aren't several pairs
 pub plain : (sys : System) → has_interval sys ≡ false → has_several sys ≡ false → is_beyond sys ≡ false
 plain sys none one = ap (λ b. b || has_several sys) none ∙ one
+
+-- applications that were lent and written back have the names that they had
+pub names_back : {R : Type 0} (len : ℕ) (new lent items : List (Application R)) (names : List Name) → take len (new ++ drop (length new) items) ≡ new → names_in new ≡ names_in lent → lent ≡ items → names_in items ≡ names
+    → names_in (take len (new ++ drop (length new) items)) ≡ names
+names_back {R} len new lent items names written same is named = ap (λ (xs : List (Application R)). names_in xs) written ∙ same ∙ ap (λ (xs : List (Application R)). names_in xs) is ∙ named

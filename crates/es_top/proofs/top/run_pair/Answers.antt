@@ -11,7 +11,7 @@ use Rattle.es_single.specs.Limits.{limits}
 use Rattle.es_single.specs.Runs.{state_of}
 use Rattle.es_single.proofs.TakenLemmas.{took_nothing}
 use Rattle.es_top.specs.Opened.{AreFresh, SomeFailed, TellEach}
-use Rattle.es_top.proofs.TopLemmas.{made_none, of_input, of_then, pair_apps, stands_held, left_told, left_is, Closable, closable, in_again, some_failed, rose_later, told_still, written_back}
+use Rattle.es_top.proofs.TopLemmas.{made_none, of_input, of_then, pair_apps, stands_held, left_told, left_is, Closable, closable, in_again, some_failed, rose_later, told_still, written_back, names_back}
 use Rattle.es_top.proofs.top.run_pair.Given as given
 use Rattle.es_top.proofs.top.run_pair.Goals as goal
 
@@ -26,7 +26,7 @@ items_are : (g : given.Over) (c : goal.After-close_all g) → closing g c ≡ c.
 items_are g c = written_back c.in-Ok.apps.len c.run_opened-result.new.apps c.as_mut_slice.result.now c.in-Ok.apps.items c.run_opened-result.auto.apps c.as_mut_slice.ensures.value c.in-Ok.apps.ok.0
 
 names_are : (g : given.Over) (c : goal.After-close_all g) → names_in (closing g c) ≡ app_names c.args.sys.now
-names_are g c = ap (λ (xs : Apps g). names_in xs) (items_are g c) ∙ c.run_opened-result.ensures.same.names ∙ ap (λ (xs : Apps g). names_in xs) c.as_mut_slice.ensures.value ∙ (c.in-Ok.ensures {u = tt}).named
+names_are g c = names_back c.in-Ok.apps.len c.run_opened-result.new.apps c.as_mut_slice.result.now c.in-Ok.apps.items (app_names c.args.sys.now) (items_are g c) c.run_opened-result.ensures.same.names c.as_mut_slice.ensures.value (c.in-Ok.ensures {u = tt}).named
 
 closed_so : (g : given.Over) (c : goal.After-close_all g) (h k : Histories) → g.M.Stores.held c.args.stores.now ≡ Some h → HoldHistories g.M.R.AggregateRecorder.history h c.run_opened-result.new.apps k → g.M.Stores.held c.close_all.new.stores ≡ Some k
 closed_so g c h k told held =
@@ -82,4 +82,7 @@ pub returns-in-Err-NoMemory-clause-bound : goal.returns-in-Err-NoMemory-clause-b
 returns-in-Err-NoMemory-clause-bound g c = took_nothing (g.S.Source.left c.args.lines.now) _ refl
 
 pub close_all-requires : goal.close_all-requires
-close_all-requires g c = record { front = ([], append-nil _ ∙ names_are g c ∙ sym (ap (λ (apps : List App). map (λ (a : App). a.name) apps) c.as_slice.ensures)) }
+close_all-requires g c =
+    let written = written_back c.in-Ok.apps.len c.run_opened-result.new.apps c.as_mut_slice.result.now c.in-Ok.apps.items c.run_opened-result.auto.apps c.as_mut_slice.ensures.value c.in-Ok.apps.ok.0 in
+    let named = names_back c.in-Ok.apps.len c.run_opened-result.new.apps c.as_mut_slice.result.now c.in-Ok.apps.items (app_names c.args.sys.now) written c.run_opened-result.ensures.same.names c.as_mut_slice.ensures.value (c.in-Ok.ensures {u = tt}).named in
+    record { front = ([], append-nil _ ∙ named ∙ sym (ap (λ (apps : List App). map (λ (a : App). a.name) apps) c.as_slice.ensures)) }
