@@ -1,3 +1,7 @@
 mod ContentsLemmas
+mod EventLemmas
+mod FormedLemmas
+mod IndexLemmas
+mod LookupLemmas
 mod SelectingLemmas
 mod SnapshotsLemmas

@@ -7,10 +7,13 @@
 mod content;
 mod fuse;
 mod history;
+mod index;
+mod lookups;
 mod memory;
 mod memory_stores;
 mod selections;
 mod snapshots;
+mod walks;
 
 pub use content::{Content, Contents, are_formed};
 pub use fuse::FuseRecorder;

@@ -1,11 +1,14 @@
 ghost use Rattle.std.specs.Prelude.{◌≡◌, ◌⊎◌, ◌<◌, ◌^◌, Some, None, [], IfOk, IfSome, IfErr, IsOk, IsOkUnless, OnOk, length};
+ghost use Rattle.std.proofs.Props.{props};
 ghost use Rattle.es_model.specs.History.{log, IsFormed};
+ghost use Rattle.es_memory.specs.inner.Index.{Stands};
 
-use crate::history::{
-    conflict_of, count_events, is_tracked, latest_of, overflow_of, repeat_of, tracked_of,
-};
-use crate::selections::{events_of, notifications_of, place_of_version};
+use crate::history::{conflict_of, count_events, overflow_of, repeat_of};
+use crate::index::{Index, grown, index_of};
+use crate::lookups::{find_latest, find_place, find_tracked};
+use crate::selections::{events_of, notifications_of};
 use crate::snapshots::{copy_at, newest_copy};
+use crate::walks::is_tracked;
 use es_model::limits::NUMBERS_END;
 use es_model::{
     CallFault, Duplicate, NoMemory, Notifications, Recording, Recordings, Snapshot, Snapshots,
@@ -13,16 +16,20 @@ use es_model::{
 };
 use es_recorder::{AggregateRecorder, ApplicationRecorder, InsertFault, Inserted, ProcessRecorder};
 use std::alloc::Global;
+use std::mem;
 use uuid::Uuid;
 
-/// A recorder in memory. It never fails, and finds what is asked for by going over all that it holds.
+/// A recorder in memory. It never fails. It keeps an index of its history, by which it finds what is
+/// asked for; where memory for that is wanting it goes on without, and goes over all that it holds.
 #[derive(Drop)]
 pub struct MemoryRecorder {
     alloc: Global,
     history: Recordings,
     snapshots: Snapshots,
+    index: Option<Index>,
     events: u64,
     capacity: u64,
+    ghost indexed: { IfSome index (Stands history) } by { Prim.hlevel props },
     ghost counted: { events ≡ length (log history) },
     ghost formed: { IsFormed history },
     ghost bounded: { capacity < 2 ^ 62 },
@@ -40,6 +47,7 @@ impl MemoryRecorder {
             alloc,
             history: Recordings::new(alloc),
             snapshots: Snapshots::new(alloc),
+            index: Some(Index::new(alloc)),
             events: 0,
             capacity,
         }
@@ -62,13 +70,7 @@ impl MemoryRecorder {
         let Some(events) = count_events(history.as_slice()) else {
             return Err(NoMemory);
         };
-        Ok(MemoryRecorder {
-            alloc,
-            history,
-            snapshots,
-            events,
-            capacity,
-        })
+        Ok(MemoryRecorder::of_counted(alloc, history, snapshots, events, capacity))
     }
 
     // A recorder with a history whose events are counted.
@@ -86,10 +88,12 @@ impl MemoryRecorder {
         ensures snapshots { ⟦<MemoryRecorder as AggregateRecorder>⟧.snapshots result ≡ Some snapshots.items }
         ensures capacity { ⟦<MemoryRecorder as AggregateRecorder>⟧.capacity result ≡ capacity }
     {
+        let index = index_of(alloc, history.as_slice());
         MemoryRecorder {
             alloc,
             history,
             snapshots,
+            index,
             events,
             capacity,
         }
@@ -105,6 +109,7 @@ impl MemoryRecorder {
             alloc: _,
             history,
             snapshots,
+            index: _,
             events: _,
             capacity: _,
         } = self;
@@ -122,10 +127,10 @@ impl MemoryRecorder {
     {
         let history = self.history.as_slice();
         let events = recording.events.as_slice();
-        if let Some(conflict) = conflict_of(history, events) {
+        if let Some(conflict) = conflict_of(history, &self.index, events) {
             return Err(conflict);
         }
-        match repeat_of(history, &recording.cause) {
+        match repeat_of(history, &self.index, &recording.cause) {
             Ok(None) => {}
             Ok(Some(repeat)) => return Err(repeat),
             Err(NoMemory) => return Err(InsertFault::NoMemory),
@@ -187,7 +192,7 @@ impl AggregateRecorder for MemoryRecorder {
         ensures small { IfOk result (λ version. version < 2 ^ 62) }
         ensures same { self.new ≡ self.old }
     {
-        Ok(latest_of(self.history.as_slice(), id))
+        Ok(find_latest(self.history.as_slice(), &self.index, id))
     }
 
     fn insert_snapshot(&mut self, snapshot: &Snapshot) -> Result<(), CallFault> {
@@ -243,7 +248,7 @@ impl ApplicationRecorder for MemoryRecorder {
         ensures small { IfOk result (λ found. IfSome found (λ n. n < 2 ^ 62)) }
         ensures same { self.new ≡ self.old }
     {
-        Ok(place_of_version(self.history.as_slice(), id, version))
+        Ok(find_place(self.history.as_slice(), &self.index, id, version))
     }
 
     // It takes no memory, and never fails.
@@ -267,7 +272,7 @@ impl ProcessRecorder for MemoryRecorder {
         ensures small { IfOk result (λ id. id < 2 ^ 62) }
         ensures same { self.new ≡ self.old }
     {
-        Ok(tracked_of(self.history.as_slice(), leader))
+        Ok(find_tracked(self.history.as_slice(), &self.index, leader))
     }
 
     // It takes no memory, and never fails.
@@ -298,6 +303,14 @@ impl ProcessRecorder for MemoryRecorder {
         };
         match self.history.push(copy) {
             Ok(()) => {
+                let index = mem::replace(&mut self.index, None);
+                self.index = grown(
+                    self.alloc,
+                    index,
+                    number as usize - 1,
+                    self.events,
+                    recording,
+                );
                 self.events = last;
                 Ok(inserted)
             }

@@ -49,7 +49,7 @@ fn add_between(
 }
 
 // The first events, in this order or from the last one on.
-fn ordered(found: StoredEvents, desc: bool, limit: Option<u64>) -> StoredEvents
+pub fn ordered(found: StoredEvents, desc: bool, limit: Option<u64>) -> StoredEvents
     ensures { result ≡ first_of limit (if desc then reverse found else found) }
 {
     let mut events = found.into_vec();

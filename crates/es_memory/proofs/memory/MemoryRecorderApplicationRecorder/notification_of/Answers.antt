@@ -7,5 +7,5 @@ use Rattle.es_memory.proofs.memory.MemoryRecorderApplicationRecorder.notificatio
 pub returns-clause-small : goal.returns-clause-small
 returns-clause-small c =
     let a = c.args in
-    let is : c.place_of_version.result ≡ selections.notification_of (log a.self.now.history) a.id a.version = c.place_of_version.ensures ∙ ap (λ h. selections.notification_of (log h) a.id a.version) c.as_slice.ensures in
+    let is : c.find_place.result ≡ selections.notification_of (log a.self.now.history) a.id a.version = c.find_place.ensures ∙ ap (λ h. selections.notification_of (log h) a.id a.version) c.as_slice.ensures in
     subst (λ o. IfSome o (λ n. n < 2 ^ 62)) (sym is) (notification_of-small a.self.now.history a.id a.version a.self.now.formed)

@@ -5,5 +5,5 @@ use Rattle.es_memory.proofs.memory.MemoryRecorderProcessRecorder.max_tracking_id
 
 pub returns-clause-small : goal.returns-clause-small
 returns-clause-small c =
-    let is : c.tracked_of.result ≡ tracked_in c.args.self.now.history c.args.leader.now = c.tracked_of.ensures ∙ ap (λ h. tracked_in h c.args.leader.now) c.as_slice.ensures in
+    let is : c.find_tracked.result ≡ tracked_in c.args.self.now.history c.args.leader.now = c.find_tracked.ensures ∙ ap (λ h. tracked_in h c.args.leader.now) c.as_slice.ensures in
     omega (arith, tracked_in-small [] c.args.self.now.history c.args.leader.now c.args.self.now.formed.causes)

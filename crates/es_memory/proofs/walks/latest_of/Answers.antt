@@ -1,7 +1,7 @@
 use Rattle.std.proofs.Common.{arith}
 use Rattle.es_model.specs.History.{log}
 use Rattle.es_model.proofs.HistoryLemmas.{latest-drop, latest-length}
-use Rattle.es_memory.proofs.history.latest_of.Goals as goal
+use Rattle.es_memory.proofs.walks.latest_of.Goals as goal
 
 pub overflow_add-count : goal.overflow_add-count
 overflow_add-count c =
