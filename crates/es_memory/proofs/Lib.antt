@@ -1,7 +1,9 @@
 mod ContentsLemmas
+mod CutLemmas
 mod EventLemmas
 mod FormedLemmas
 mod IndexLemmas
 mod LookupLemmas
+mod PlaceLemmas
 mod SelectingLemmas
 mod SnapshotsLemmas

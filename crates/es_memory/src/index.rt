@@ -1,10 +1,14 @@
-ghost use Rattle.std.specs.Prelude.{◌≡◌, ◌<◌, ◌≤◌, ◌+◌, ◌^◌, ◌++◌, ◌∷◌, [], Some, OnOk, IfOk, IfSome, length, slice_get, if◌then◌else◌, List};
+ghost use Rattle.std.specs.Prelude.{◌≡◌, ◌<◌, ◌≤◌, ◌+◌, ◌-◌, ◌^◌, ◌++◌, ◌∷◌, [], Some, All, OnOk, IfOk, IfSome, length, map, take, drop, slice_get, if◌then◌else◌, List};
 ghost use Rattle.std.specs.Str.{bytes_eq};
 ghost use Rattle.es_model.specs.declared.event.Recording.{Recording};
 ghost use Rattle.es_model.specs.History.{log};
+ghost use Rattle.es_recorder.specs.Selections.{numbered_from};
 ghost use Rattle.es_memory.specs.inner.Index.{at_id, at_name, places_from, id_in, AddsPlaces, ArePlaces, Stands};
 
-use es_model::{Cause, NoMemory, Recording, StoredEvent, Text};
+use es_model::{
+    Cause, Duplicate, NoMemory, Notification, Notifications, Recording, StoredEvent, StoredEvents,
+    Text,
+};
 use std::alloc::Global;
 use std::collections::BTreeMap;
 use uuid::Uuid;
@@ -149,6 +153,47 @@ impl Index {
         let (recording, event) = self.places[place as usize];
         let events = history[recording].events.as_slice();
         &events[event]
+    }
+
+    /// Copies of the events at places of the log.
+    pub fn events_at(
+        &self,
+        alloc: Global,
+        history: &[Recording],
+        places: &[u64],
+    ) -> Result<StoredEvents, NoMemory>
+        requires places { ArePlaces history.now self.now.places.items }
+        requires within { All (λ place. place < length (log history.now)) places.now }
+        ensures { IfOk result (λ es. map (slice_get (log history.now)) places.now ≡ map Some es) }
+    {
+        let mut found = StoredEvents::new(alloc);
+        for place in places {
+            found.push(self.event_at(history, *place).copy()?)?;
+        }
+        Ok(found)
+    }
+
+    /// The notifications of the events from one place up to another.
+    pub fn notifications_at(
+        &self,
+        alloc: Global,
+        history: &[Recording],
+        from: u64,
+        upto: u64,
+    ) -> Result<Notifications, NoMemory>
+        requires places { ArePlaces history.now self.now.places.items }
+        requires within { upto ≤ length (log history.now) }
+        requires few { upto < 2 ^ 62 }
+        ensures { IfOk result (λ ns. ns ≡ take (upto - from) (numbered_from (from + 1) (drop from (log history.now)))) }
+    {
+        let mut found = Notifications::new(alloc);
+        for place in from..upto {
+            found.push(Notification {
+                id: place + 1,
+                event: self.event_at(history, place).copy()?,
+            })?;
+        }
+        Ok(found)
     }
 }
 

@@ -5,6 +5,7 @@
 #![tactic(auto)]
 
 mod content;
+mod cuts;
 mod fuse;
 mod history;
 mod index;

@@ -5,10 +5,10 @@ ghost use Rattle.es_memory.specs.inner.Index.{Stands};
 
 use crate::history::{conflict_of, count_events, overflow_of, repeat_of};
 use crate::index::{Index, grown, index_of};
-use crate::lookups::{find_latest, find_place, find_tracked};
-use crate::selections::{events_of, notifications_of};
+use crate::lookups::{
+    find_events, find_latest, find_notifications, find_place, find_tracked, has_tracked,
+};
 use crate::snapshots::{copy_at, newest_copy};
-use crate::walks::is_tracked;
 use es_model::limits::NUMBERS_END;
 use es_model::{
     CallFault, Duplicate, NoMemory, Notifications, Recording, Recordings, Snapshot, Snapshots,
@@ -183,7 +183,7 @@ impl AggregateRecorder for MemoryRecorder {
         ensures memory { IsOkUnless result fault.NoMemory }
     {
         let history = self.history.as_slice();
-        Ok(events_of(self.alloc, history, id, gt, lte, desc, limit)?)
+        Ok(find_events(self.alloc, history, &self.index, id, gt, lte, desc, limit)?)
     }
 
     // It takes no memory, and never fails.
@@ -230,7 +230,7 @@ impl ApplicationRecorder for MemoryRecorder {
         ensures memory { IsOkUnless result fault.NoMemory }
     {
         let history = self.history.as_slice();
-        Ok(notifications_of(self.alloc, history, start, limit)?)
+        Ok(find_notifications(self.alloc, history, &self.index, start, limit)?)
     }
 
     // It takes no memory, and never fails.
@@ -280,7 +280,7 @@ impl ProcessRecorder for MemoryRecorder {
         ensures value { result ≡ Ok (tracks self.old.history leader.now id) }
         ensures same { self.new ≡ self.old }
     {
-        Ok(is_tracked(self.history.as_slice(), leader, id))
+        Ok(has_tracked(self.history.as_slice(), &self.index, leader, id))
     }
 
     fn insert(&mut self, recording: &Recording) -> Result<Inserted, InsertFault> {

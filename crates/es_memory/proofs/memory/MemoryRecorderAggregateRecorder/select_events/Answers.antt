@@ -7,6 +7,6 @@ use Rattle.es_memory.proofs.memory.MemoryRecorderAggregateRecorder.select_events
 pub returns-clause-numbers : goal.returns-clause-numbers
 returns-clause-numbers c =
     let a = c.args in
-    let is : c.in_ok-events_of.field-0 ≡ select_events (log a.self.now.history) a.id a.gt a.lte a.desc a.limit
-    = c.in_ok-events_of.ensures ∙ ap (λ h. select_events (log h) a.id a.gt a.lte a.desc a.limit) c.as_slice-history.ensures in
+    let is : c.in_ok-find_events.field-0 ≡ select_events (log a.self.now.history) a.id a.gt a.lte a.desc a.limit
+    = c.in_ok-find_events.ensures ∙ ap (λ h. select_events (log h) a.id a.gt a.lte a.desc a.limit) c.as_slice-history.ensures in
     subst (AreVersions a.limit) (sym is) (AreVersions-select a.self.now.history a.id a.gt a.lte a.desc a.limit a.self.now.formed)

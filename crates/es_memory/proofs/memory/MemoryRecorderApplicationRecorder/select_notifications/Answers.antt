@@ -8,5 +8,5 @@ pub returns-clause-numbers : goal.returns-clause-numbers
 returns-clause-numbers c =
     let start = c.args.start in
     let limit = c.args.limit in
-    let is : c.in_ok-notifications_of.field-0 ≡ select_notifications (log c.args.self.now.history) start limit = c.in_ok-notifications_of.ensures ∙ ap (λ h. select_notifications (log h) start limit) c.as_slice-history.ensures in
+    let is : c.in_ok-find_notifications.field-0 ≡ select_notifications (log c.args.self.now.history) start limit = c.in_ok-find_notifications.ensures ∙ ap (λ h. select_notifications (log h) start limit) c.as_slice-history.ensures in
     subst (AreSelected start limit) (sym is) (selected c.args.self.now.history start limit c.args.self.now.formed)
