@@ -9,7 +9,7 @@ use Rattle.std.proofs.lemmas.List.Elements.{All-take, All-drop}
 use Rattle.es_model.specs.declared.event.StoredEvent.{StoredEvent}
 use Rattle.es_recorder.specs.Selections.{is_above, is_upto, first_of}
 use Rattle.es_memory.specs.inner.Cuts.{last_of, ends_of}
-use Rattle.es_memory.specs.inner.Index.{AreCounted}
+use Rattle.es_memory.proofs.EventLemmas.{AreCounted}
 
 -- parts of a mapped list
 module _ {A B : Type 0} (f : A → B) where

@@ -12,7 +12,12 @@ use Rattle.es_model.specs.History.{own, latest, versions_follow}
 use Rattle.es_model.specs.Values.{Id}
 use Rattle.es_model.proofs.HistoryLemmas.{both_true, latest-append}
 use Rattle.es_recorder.specs.Selections.{is_version, notification_of}
-use Rattle.es_memory.specs.inner.Index.{places_from, AreCounted}
+use Rattle.es_memory.specs.inner.Index.{places_from}
+
+-- the versions are this one, the next and so on
+abbrev pub AreCounted : ℕ → List StoredEvent → Type 0
+AreCounted first [] = Unit {0}
+AreCounted first (e ∷ es) = (e.originator_version ≡ first) × AreCounted (first + 1) es
 
 -- what an event that follows does to the latest version of an originator
 abbrev Next : List StoredEvent → StoredEvent → List StoredEvent → Id → Type 0

@@ -87,12 +87,6 @@ number-more es found place upto e whole within here read =
     ∙ (λ i. found ++ take (upto - place) (numbered_from (place + 1) (sym (rest_at es place e here) i)))
     ∙ read
 
--- no notification more
-pub number-none : (es : List StoredEvent) (found : List Notification) (place upto : ℕ) (whole : List Notification) → upto ≤ place → found ++ take (upto - place) (numbered_from (place + 1) (drop place es)) ≡ whole → found ≡ whole
-number-none es found place upto whole past read =
-    let none : zero ≡ upto - place = omega (arith, past) in
-    sym (append-nil found) ∙ (λ i. found ++ take (none i) (numbered_from (place + 1) (drop place es))) ∙ read
-
 -- ids begin at 1
 from_first : (first : ℕ) (es : List StoredEvent) → 1 ≤ first → ids_from 0 (numbered_from first es) ≡ ids_from 1 (numbered_from first es)
 from_first first [] at = refl

@@ -53,7 +53,8 @@ impl MemoryRecorder {
         }
     }
 
-    /// A recorder with this history and these snapshots. It takes no memory.
+    /// A recorder with this history and these snapshots. It never fails: where memory for an index is
+    /// wanting it goes on without.
     pub fn with(
         alloc: Global,
         history: Recordings,

@@ -56,11 +56,6 @@ pub record AddsPlaces (recording count : ℕ) (old new : List (ℕ × ℕ)) : Ty
 abbrev pub Stands : List Recording → Index → Type 0
 Stands h i = ((id : Id) → at_id i.ids id ≡ places_from 0 (log h) id) × ((leader : Name) → at_name i.leaders leader ≡ ids_in h leader) × ArePlaces h i.places.items
 
--- the versions are this one, the next and so on
-abbrev pub AreCounted : ℕ → List StoredEvent → Type 0
-AreCounted first [] = Unit {0}
-AreCounted first (e ∷ es) = (e.originator_version ≡ first) × AreCounted (first + 1) es
-
 -- each number is above the one before it, and the first above this one
 abbrev pub Rises : ℕ → List ℕ → Type 0
 Rises low [] = Unit {0}
