@@ -6,6 +6,7 @@ pub mod KindsLemmas
 pub mod NextLemmas
 pub mod OverlayLemmas
 pub mod Projections
+pub mod RefoldLemmas
 pub mod RunLemmas
 pub mod ToldLemmas
 pub mod ValuesLemmas

@@ -1,3 +1,4 @@
+pub mod Policies
 pub mod Readings
 pub mod Repository
 pub mod Same
