@@ -44,6 +44,16 @@ of-push id (x ∷ es) e are is = (are.0, of-push id es e are.1 is)
 abbrev pub IsIdle : Id → Aggregate → Type 0
 IsIdle id a = (a.id ≡ id) × (a.pending ≡ [])
 
+-- each aggregate that is read is one that a decision may have
+abbrev pub AreIdle : Readings → Type 0
+AreIdle readings = (id : Id) (a : Aggregate) → readings id ≡ folded (Some a) → IsIdle id a
+
+-- a decision that gives no events
+abbrev pub IsStop : Decided → Type 0
+IsStop (Ok (decision.Events es)) = ⊥
+IsStop (Ok (decision.Refused code rule)) = Unit {0}
+IsStop (Err fault) = Unit {0}
+
 module _ (sys : System) where
   -- ---- an aggregate's pending events change no step
 
@@ -163,10 +173,6 @@ module _ (sys : System) where
 
   -- ---- a rule
 
-  -- each aggregate that is read is one that a decision may have
-  abbrev pub AreIdle : Readings → Type 0
-  AreIdle readings = (id : Id) (a : Aggregate) → readings id ≡ folded (Some a) → IsIdle id a
-
   -- the new events are of one aggregate, and what is read of it afterwards is what they make of it
   pub record IsChange (readings : Readings) (more : List DomainEvent) (now : Readings) : Type 0 where
     pub id : Id
@@ -177,12 +183,6 @@ module _ (sys : System) where
     pub of : AreOf id more
     pub folds : fold_from sys found more ≡ Ok (Some (collected aggregate))
     pub now_is : now ≡ after_change readings aggregate
-
-  -- a decision that gives no events
-  abbrev pub IsStop : Decided → Type 0
-  IsStop (Ok (decision.Events es)) = ⊥
-  IsStop (Ok (decision.Refused code rule)) = Unit {0}
-  IsStop (Err fault) = Unit {0}
 
   -- what follows of a rule, by what it decides alone and by what it and some more rules decide
   pub record Follows (X : Type 0) (readings : Readings) (rest : Readings → Decided) (alone whole : Decided) : Type 0 where

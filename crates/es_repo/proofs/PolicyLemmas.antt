@@ -4,6 +4,7 @@ use Rattle.std.specs.Prelude.{filter}
 use Rattle.std.specs.Str.{bytes_eq}
 use Rattle.std.proofs.lemmas.Slice.Eq.{bytes_eq-Decides}
 use Rattle.es_model.specs.Declaration.{app_named}
+use Rattle.es_model.specs.History.{latest}
 use Rattle.es_model.specs.Values.{Name, Id}
 use Rattle.es_model.specs.declared.declaration.Rule.{Rule}
 use Rattle.es_model.specs.declared.declaration.System.{System}
@@ -17,8 +18,8 @@ use Rattle.es_domain.specs.Steps.{collected}
 use Rattle.es_domain.specs.declared.aggregate.Aggregate.{Aggregate}
 use Rattle.es_domain.specs.declared.aggregate.ApplyFault.{ApplyFault}
 use Rattle.es_domain.specs.declared.command.Decision.TheVariants as decision
-use Rattle.es_domain.proofs.NextLemmas.{StandsAt, StandsAs}
-use Rattle.es_domain.proofs.RefoldLemmas.{AreOf, IsIdle, AreIdle, IsChange, IsStop, by-rule, change-idle}
+use Rattle.es_domain.proofs.NextLemmas.{StandsAs}
+use Rattle.es_domain.proofs.RefoldLemmas.{AreOf, AreIdle, IsChange, IsStop, Follows, by-rule, change-idle}
 use Rattle.es_repo.specs.Policies.{placed_from, new_of, read_new, then_read, readings_with, after_rule, rules_by, policy_by}
 use Rattle.es_repo.specs.Readings.{after_entry, readings_of}
 use Rattle.es_repo.proofs.StandingLemmas.{standing}
@@ -34,13 +35,14 @@ placed-append first (x ∷ xs) ys =
 abbrev is_own : Id → ℕ × DomainEvent → Bool
 is_own id n = bytes_eq n.1.originator_id id
 
+own-step : (id : Id) (n : ℕ × DomainEvent) (ns ms : List (ℕ × DomainEvent)) (b : Bool) → is_own id n ≡ b → filter (is_own id) (ns ++ ms) ≡ filter (is_own id) ns ++ filter (is_own id) ms
+    → filter (is_own id) (n ∷ ns ++ ms) ≡ filter (is_own id) (n ∷ ns) ++ filter (is_own id) ms
+own-step id n ns ms true is rest = rw is (ap (λ (xs : List (ℕ × DomainEvent)). n ∷ xs) rest)
+own-step id n ns ms false is rest = rw is rest
+
 own-append : (id : Id) (ns ms : List (ℕ × DomainEvent)) → filter (is_own id) (ns ++ ms) ≡ filter (is_own id) ns ++ filter (is_own id) ms
 own-append id [] ms = refl
-own-append id (n ∷ ns) ms = by-test (is_own id n) refl
-  where
-    by-test : (b : Bool) → is_own id n ≡ b → filter (is_own id) (n ∷ ns ++ ms) ≡ filter (is_own id) (n ∷ ns) ++ filter (is_own id) ms
-    by-test true is = rw is (ap (λ (xs : List (ℕ × DomainEvent)). n ∷ xs) (own-append id ns ms))
-    by-test false is = rw is (own-append id ns ms)
+own-append id (n ∷ ns) ms = own-step id n ns ms (is_own id n) refl (own-append id ns ms)
 
 of-append : (first : ℕ) (xs ys : List DomainEvent) (id : Id) → new_of first (xs ++ ys) id ≡ new_of first xs id ++ new_of (first + length xs) ys id
 of-append first xs ys id = ap (filter (is_own id)) (placed-append first xs ys) ∙ own-append id (placed_from first xs) (placed_from (first + length xs) ys)
@@ -97,6 +99,80 @@ module _ (sys : System) where
         ap (λ ns. then_read (readings_of sys events id) (λ f. read_new sys f ns)) (of-append (length events + 1) new more id)
         ∙ then-append (readings_of sys events id) (new_of (length events + 1) new id) (new_of (length events + 1 + length new) more id)
 
-    -- what is read after the new events of an aggregate
-    changed-read : (new more : List DomainEvent) (c : IsChange sys (read new) more (after_change (read new) c.aggregate)) → Unit {0}
-    changed-read new more c = tt
+    -- what is read after the new events of an aggregate is what they make of it
+    module _ (new more : List DomainEvent) (now : Readings) (c : IsChange sys (read new) more now) where
+      abbrev place : ℕ
+      place = length events + 1 + length new
+
+      changed-own : (id : Id) → c.id ≡ id → then_read (read new id) (λ f. read_new sys f (new_of place more id)) ≡ folded (Some (collected c.aggregate))
+      changed-own id is =
+          ap (λ r. then_read r (λ f. read_new sys f (new_of place more id))) (ap (read new) (sym is) ∙ c.read)
+          ∙ ap (read_new sys c.found) (own-all place more id (subst (λ i. AreOf i more) is c.of))
+          ∙ fold-read place c.found (Some (collected c.aggregate)) more c.folds
+
+      changed-other : (id : Id) → bytes_eq c.id id ≡ false → then_read (read new id) (λ f. read_new sys f (new_of place more id)) ≡ read new id
+      changed-other id away = ap (λ ns. then_read (read new id) (λ f. read_new sys f ns)) (own-none place more c.id id c.of away) ∙ then-none (read new id)
+
+      changed-at : (id : Id) (b : Bool) → bytes_eq c.aggregate.id id ≡ b → then_read (read new id) (λ f. read_new sys f (new_of place more id)) ≡ (if b then folded (Some (collected c.aggregate)) else read new id)
+      changed-at id true same = changed-own id (sym c.id_is ∙ (bytes_eq-Decides c.aggregate.id id).0 same)
+      changed-at id false away = changed-other id (ap (λ i. bytes_eq i id) (sym c.id_is) ∙ away)
+
+      changed-read : read (new ++ more) ≡ now
+      changed-read = (λ i id. (read-more new more id ∙ changed-at id (bytes_eq c.aggregate.id id) refl) i) ∙ sym c.now_is
+
+    -- ---- the rules
+
+    joined-none : (d : Decided) → joined [] d ≡ d
+    joined-none (Ok (decision.Events es)) = refl
+    joined-none (Ok (decision.Refused code rule)) = refl
+    joined-none (Err fault) = refl
+
+    joined-twice : (es more : List DomainEvent) (d : Decided) → joined es (joined more d) ≡ joined (es ++ more) d
+    joined-twice es more (Ok (decision.Events last)) = ap (λ xs. Ok (decision.Events xs)) (sym (append_assoc es more last))
+    joined-twice es more (Ok (decision.Refused code rule)) = refl
+    joined-twice es more (Err fault) = refl
+
+    stopped : (new : List DomainEvent) (d : Decided) (rest : List DomainEvent → Decided) → IsStop d → after_rule new d rest ≡ joined new d
+    stopped new (Ok (decision.Events es)) rest stop = absurd stop
+    stopped new (Ok (decision.Refused code rule)) rest stop = refl
+    stopped new (Err fault) rest stop = refl
+
+    -- the rest of a decision over the new events is that over the readings that they changed
+    abbrev AreSame : (List DomainEvent → Decided) → (Readings → Decided) → Type 0
+    AreSame by from = (new : List DomainEvent) → AreIdle (read new) → by new ≡ joined new (from (read new))
+
+    rule-same : (new : List DomainEvent) (by : List DomainEvent → Decided) (from : Readings → Decided) (alone whole : Decided) → AreSame by from → AreIdle (read new)
+        → Follows sys (after_rule new alone by ≡ joined new whole) (read new) from alone whole
+    rule-same new by from alone whole same idle = record {
+      goes = λ is all. ap (λ d. after_rule new d by) is ∙ ap by (append-nil new) ∙ same new idle ∙ ap (joined new) (sym all);
+      changes = λ more now is change all.
+          let reads : read (new ++ more) ≡ now = changed-read new more now change in
+          ap (λ d. after_rule new d by) is
+          ∙ same (new ++ more) (subst AreIdle (sym reads) (change-idle sys (read new) more now idle change))
+          ∙ ap (λ r. joined (new ++ more) (from r)) reads
+          ∙ sym (joined-twice new more (from now))
+          ∙ ap (joined new) (sym all);
+      stops = λ d stop is all. ap (λ x. after_rule new x by) is ∙ stopped new d by stop ∙ ap (joined new) (sym all);
+    }
+
+    rules-same : (n : Notice) (at : ℤ) (rule : ℕ) (rules : List Rule) → AreSame (rules_by sys n at read rule rules) (rules_from sys n at rule rules)
+    rules-same n at rule [] = λ new idle. ap (λ es. Ok (decision.Events es)) (sym (append-nil new))
+    rules-same n at rule (r ∷ rules) = λ new idle.
+        let alone = rules_from sys n at rule (r ∷ []) (read new) in
+        let whole = rules_from sys n at rule (r ∷ rules) (read new) in
+        by-rule sys (after_rule new alone (rules_by sys n at read (rule + 1) rules) ≡ joined new whole) n at rule r rules (read new) idle
+        (rule-same new (rules_by sys n at read (rule + 1) rules) (rules_from sys n at (rule + 1) rules) alone whole (rules-same n at (rule + 1) rules) idle)
+
+    -- before any rule
+    first-read : read [] ≡ readings_of sys events
+    first-read = λ i id. then-none (readings_of sys events id) i
+
+    first-idle : AreIdle (readings_of sys events)
+    first-idle = λ id a is. let stands : StandsAs id (latest events id) a = standing sys events id (Some a) is in (stands.id_is, stands.pending)
+
+    -- what a policy decides over the new events of the earlier rules is what it decides over the readings that they changed
+    pub policy-over : (app : Name) (n : Notice) (at : ℤ) → policy_by sys app n at read ≡ policy_decision sys app n at (readings_of sys events)
+    policy-over app n at =
+        rules-same n at 1 (rules_of (app_named sys.apps app)) [] (subst AreIdle (sym first-read) first-idle)
+        ∙ joined-none (rules_from sys n at 1 (rules_of (app_named sys.apps app)) (read []))
+        ∙ ap (rules_from sys n at 1 (rules_of (app_named sys.apps app))) first-read
