@@ -1,5 +1,5 @@
 -- What is decided comes next over the log.
-use Rattle.std.proofs.Common.{◌≡◌, ◌∙◌, ◌+◌, ℕ, ℤ, Bool, true, false, List, [], ◌∷◌, ◌++◌, map, None, Some, Ok, Err, refl, sym, ap, if◌then◌else◌}
+use Rattle.std.proofs.Common.{◌≡◌, ◌∙◌, ◌+◌, ℕ, ℤ, Bool, true, false, List, [], ◌∷◌, ◌++◌, map, None, Some, Ok, Err, refl, sym, ap, subst, if◌then◌else◌}
 use Rattle.std.specs.Str.{bytes_eq}
 use Rattle.std.proofs.lemmas.Bool.Decides.{Decides-eqb}
 use Rattle.es_model.specs.History.{latest}
@@ -15,9 +15,11 @@ use Rattle.es_domain.specs.declared.find.FindFault.TheVariants.{Unreadable, Fail
 use Rattle.es_domain.proofs.NextLemmas.{raised, AreNext, IsNext, command-next, policy-next}
 use Rattle.es_recorder.specs.Insert.{first_conflict}
 use Rattle.es_recorder.specs.declared.recorder.InsertFault.TheVariants.{Conflict}
+use Rattle.es_repo.specs.Policies.{policy_by, readings_with}
 use Rattle.es_repo.specs.Readings.{readings_of}
 use Rattle.es_repo.specs.Verdicts.{verdict_of, FollowsIn}
 use Rattle.es_repo.proofs.LogLemmas.{latest-own, latest-other}
+use Rattle.es_repo.proofs.PolicyLemmas.{policy-over}
 use Rattle.es_repo.proofs.StandingLemmas.{standing}
 
 module _ (sys : System) where
@@ -51,6 +53,7 @@ module _ (sys : System) where
       next-follows events (command_decision sys c at (readings_of sys events)) (command-next sys (latest events) (readings_of sys events) c at (λ id now is. standing sys events id now is))
 
   -- what a policy decides comes next
-  pub policy-follows : (events : List StoredEvent) (app : Name) (n : Notice) (at : ℤ) → FollowsIn events (verdict_of sys (policy_decision sys app n at (readings_of sys events)))
+  pub policy-follows : (events : List StoredEvent) (app : Name) (n : Notice) (at : ℤ) → FollowsIn events (verdict_of sys (policy_by sys app n at (readings_with sys events)))
   policy-follows events app n at =
-      next-follows events (policy_decision sys app n at (readings_of sys events)) (policy-next sys (latest events) (readings_of sys events) app n at (λ id now is. standing sys events id now is))
+      subst (λ d. FollowsIn events (verdict_of sys d)) (sym (policy-over sys events app n at))
+      (next-follows events (policy_decision sys app n at (readings_of sys events)) (policy-next sys (latest events) (readings_of sys events) app n at (λ id now is. standing sys events id now is)))

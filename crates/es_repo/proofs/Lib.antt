@@ -1,8 +1,11 @@
+pub mod BackLemmas
 pub mod FoldingLemmas
 pub mod FollowsLemmas
 pub mod GetsLemmas
 pub mod JudgeLemmas
 pub mod LogLemmas
+pub mod PolicyLemmas
 pub mod ReadingLemmas
 pub mod StandingLemmas
+pub mod StoredLemmas
 pub mod ToldLemmas

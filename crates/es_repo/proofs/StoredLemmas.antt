@@ -1,5 +1,5 @@
 -- Where a policy gives events that are read back as they are stored, it gives the same over the stored ones.
-use Rattle.std.proofs.Common.{ℤ, ℕ, ◌≡◌, ◌∙◌, ◌+◌, Bool, true, false, List, [], ◌∷◌, ◌++◌, map, Option, None, Some, Result, Ok, Err, length, refl, sym, ap, subst, arith, append-nil, append_assoc}
+use Rattle.std.proofs.Common.{ℤ, ℕ, ◌≡◌, ◌∙◌, ◌+◌, Bool, true, false, List, [], ◌∷◌, ◌++◌, map, Option, None, Some, Result, Ok, Err, IfOk, length, refl, sym, ap, subst, arith, append-nil, append_assoc}
 use Rattle.std.specs.Prelude.{All, filter}
 use Rattle.std.specs.Str.{bytes_eq}
 use Rattle.std.proofs.lemmas.List.Elements.{All-nil, All-cons, All-head, All-tail}
@@ -18,8 +18,11 @@ use Rattle.es_domain.specs.Fold.{advanced}
 use Rattle.es_domain.specs.Readings.{Reading, Readings, folded, unreadable}
 use Rattle.es_domain.specs.declared.aggregate.Aggregate.{Aggregate}
 use Rattle.es_domain.specs.declared.command.Decision.TheVariants as decision
-use Rattle.es_repo.specs.Policies.{placed_from, new_of, read_new, then_read, readings_with, readings_behind, IsReadBack, after_rule, rules_by, policy_by}
+use Rattle.es_domain.specs.declared.find.FindFault.TheVariants.{Unreadable, Failed, NoMemory}
+use Rattle.es_repo.specs.Policies.{placed_from, new_of, read_new, then_read, readings_with, readings_behind, IsReadBack, AreReadBack, after_rule, rules_by, policy_by}
 use Rattle.es_repo.specs.Readings.{notifications_of, advanced_by, after_entry, read_from, readings_of}
+use Rattle.es_repo.specs.Verdicts.{verdict_of, AcceptsAs}
+use Rattle.es_repo.specs.declared.verdict.Verdict.{Verdict}
 use Rattle.es_repo.proofs.LogLemmas.{entries}
 
 -- ---- the notifications of a longer log
@@ -120,3 +123,19 @@ module _ (sys : System) where
     pub policy-back : (app : Name) (n : Notice) (at : ℤ) (es : List DomainEvent) → All (IsReadBack sys) es → policy_by sys app n at (readings_with sys events) ≡ Ok (decision.Events es)
         → policy_by sys app n at (readings_behind sys events) ≡ Ok (decision.Events es)
     policy-back app n at es back is = rules-back n at 1 (rules_of (app_named sys.apps app)) [] es back is
+
+-- ---- verdicts
+
+module _ (sys : System) (events : List StoredEvent) (app : Name) (n : Notice) (at : ℤ) where
+  abbrev wanted : Decided
+  wanted = policy_by sys app n at (readings_behind sys events)
+
+  -- a verdict whose events are read back as they are stored is that over the stored ones
+  pub accepts : (v : Verdict) (d : Decided) → policy_by sys app n at (readings_with sys events) ≡ d → v ≡ verdict_of sys d → IfOk d (AreReadBack sys) → AcceptsAs (verdict_of sys wanted) v
+  accepts v (Ok (decision.Events es)) given is back =
+      let same : wanted ≡ Ok (decision.Events es) = policy-back sys events app n at es back given in
+      subst (AcceptsAs (verdict_of sys wanted)) (sym is) (ap (verdict_of sys) same)
+  accepts v (Ok (decision.Refused code rule)) given is back = subst (AcceptsAs (verdict_of sys wanted)) (sym is) tt
+  accepts v (Err (Unreadable id)) given is back = subst (AcceptsAs (verdict_of sys wanted)) (sym is) tt
+  accepts v (Err Failed) given is back = subst (AcceptsAs (verdict_of sys wanted)) (sym is) tt
+  accepts v (Err NoMemory) given is back = subst (AcceptsAs (verdict_of sys wanted)) (sym is) tt

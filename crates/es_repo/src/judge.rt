@@ -4,12 +4,13 @@ ghost use Rattle.es_model.specs.Declaration.{app_named};
 ghost use Rattle.es_model.specs.History.{log};
 ghost use Rattle.es_model.specs.declared.event.Recording.{Recording};
 ghost use Rattle.es_expr.specs.Checked.{IsCheckedSystem};
-ghost use Rattle.es_domain.specs.Decision.{AreNewEvents, Decides, IsNotice, IsOfCommand, command_decision, notice, policy_decision};
+ghost use Rattle.es_domain.specs.Decision.{AreNewEvents, Decides, IsNotice, IsOfCommand, command_decision, notice};
 ghost use Rattle.es_domain.specs.Effect.{command_named};
 ghost use Rattle.es_domain.specs.Readings.{FindHasCause};
+ghost use Rattle.es_repo.specs.Policies.{policy_by, readings_with};
 ghost use Rattle.es_repo.specs.Readings.{readings_of};
 ghost use Rattle.es_repo.specs.Same.{IsSameRecorder};
-ghost use Rattle.es_repo.specs.Verdicts.{command_verdict, policy_verdict, FollowsIn, IsSmallVerdict};
+ghost use Rattle.es_repo.specs.Verdicts.{command_verdict, policy_verdict, stored_verdict, AcceptsAs, FollowsIn, IsSmallVerdict};
 
 use crate::Verdict;
 use crate::reader::Reader;
@@ -59,7 +60,7 @@ fn policy_decided<R: ProcessRecorder>(
     requires checked { IsCheckedSystem sys.now }
     requires app { IsTrue (is_some (app_named sys.now.apps app.now)) }
     requires notice { IsNotice sys.now (notice leader.now id event.now) }
-    ensures decision { (h : List Recording) → R.history recorder.old ≡ Some h → Decides (policy_decision sys.now app.now (notice leader.now id event.now) at (readings_of sys.now (log h))) result }
+    ensures decision { (h : List Recording) → R.history recorder.old ≡ Some h → Decides (policy_by sys.now app.now (notice leader.now id event.now) at (readings_with sys.now (log h))) result }
     ensures events { IfOk result (AreNewEvents sys.now) }
     ensures same { IsSameRecorder R.history R.snapshots R.capacity recorder.old recorder.new }
     ensures cause { FindHasCause (R.faults recorder.old) (R.faults recorder.new) result }
@@ -111,6 +112,7 @@ pub fn judge_policy<R: ProcessRecorder>(
     requires app { IsTrue (is_some (app_named sys.now.apps app.now)) }
     requires notice { IsNotice sys.now (notice leader.now id event.now) }
     ensures verdict { (h : List Recording) → R.history recorder.old ≡ Some h → IfOk result (λ v. v ≡ policy_verdict sys.now app.now (notice leader.now id event.now) at h) }
+    ensures stored { (h : List Recording) → R.history recorder.old ≡ Some h → IfOk result (AcceptsAs (stored_verdict sys.now app.now (notice leader.now id event.now) at h)) }
     ensures small { IfOk result IsSmallVerdict }
     ensures follows { (h : List Recording) → R.history recorder.old ≡ Some h → IfOk result (FollowsIn (log h)) }
     ensures same { IsSameRecorder R.history R.snapshots R.capacity recorder.old recorder.new }
