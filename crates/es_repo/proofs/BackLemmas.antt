@@ -1,10 +1,9 @@
 -- In a checked system a new event whose fields rise is read back as it is stored.
-use Rattle.std.proofs.Common.{◌≡◌, ◌∙◌, Bool, true, false, not, ◌&&◌, IsTrue, List, [], ◌∷◌, ◌++◌, find, map, Option, None, Some, Result, Ok, Err, IfOk, codes, refl, sym, ap, subst}
-use Rattle.std.specs.Prelude.{All}
+use Rattle.std.proofs.Common.{◌≡◌, ◌∙◌, Bool, true, false, not, ◌&&◌, List, [], ◌∷◌, find, Option, None, Some, codes, refl, sym, ap}
 use Rattle.std.specs.List.{list_all}
 use Rattle.std.specs.Str.{bytes_eq}
 use Rattle.std.proofs.lemmas.Slice.Eq.{bytes_eq-Decides}
-use Rattle.es_model.specs.Declaration.{event_in, event_named}
+use Rattle.es_model.specs.Declaration.{event_named}
 use Rattle.es_model.specs.Names.{is_lower_name, is_field_name, is_reserved_field, is_topic_in, is_upper_name}
 use Rattle.es_model.specs.Rising.{IsRising, item_of}
 use Rattle.es_model.specs.Values.{Name}

@@ -1,5 +1,5 @@
 -- A policy that is decided over the new events of the earlier rules is the one over the readings that they changed.
-use Rattle.std.proofs.Common.{ℤ, ℕ, ◌≡◌, ◌∙◌, ◌+◌, Bool, true, false, List, [], ◌∷◌, ◌++◌, Option, None, Some, Result, Ok, Err, length, IfSome, refl, sym, ap, subst, arith, if◌then◌else◌, append-nil, append_assoc}
+use Rattle.std.proofs.Common.{ℤ, ℕ, ◌≡◌, ◌∙◌, ◌+◌, Bool, true, false, List, [], ◌∷◌, ◌++◌, Option, None, Some, Result, Ok, Err, length, refl, sym, ap, subst, arith, if◌then◌else◌, append-nil, append_assoc}
 use Rattle.std.specs.Prelude.{filter}
 use Rattle.std.specs.Str.{bytes_eq}
 use Rattle.std.proofs.lemmas.Slice.Eq.{bytes_eq-Decides}
@@ -10,7 +10,7 @@ use Rattle.es_model.specs.declared.declaration.Rule.{Rule}
 use Rattle.es_model.specs.declared.declaration.System.{System}
 use Rattle.es_model.specs.declared.domain_event.DomainEvent.{DomainEvent}
 use Rattle.es_model.specs.declared.event.StoredEvent.{StoredEvent}
-use Rattle.es_domain.specs.Decision.{Decided, Notice, after_change, joined, policy_decision, rules_from, rules_of}
+use Rattle.es_domain.specs.Decision.{Decided, Notice, joined, policy_decision, rules_from, rules_of}
 use Rattle.es_domain.specs.Effect.{made}
 use Rattle.es_domain.specs.Fold.{advanced, and_then, fold_from}
 use Rattle.es_domain.specs.Readings.{Reading, Readings, folded, unreadable}

@@ -1,6 +1,6 @@
 -- Where a policy gives events that are read back as they are stored, it gives the same over the stored ones.
-use Rattle.std.proofs.Common.{ℤ, ℕ, ◌≡◌, ◌∙◌, ◌+◌, Bool, true, false, List, [], ◌∷◌, ◌++◌, map, Option, None, Some, Result, Ok, Err, IfOk, length, refl, sym, ap, subst, arith, append-nil, append_assoc}
-use Rattle.std.specs.Prelude.{All, filter}
+use Rattle.std.proofs.Common.{ℤ, ℕ, ◌≡◌, ◌∙◌, ◌+◌, Bool, true, false, List, [], ◌∷◌, ◌++◌, map, Option, None, Some, Ok, Err, IfOk, length, refl, sym, ap, subst, arith, append-nil, append_assoc}
+use Rattle.std.specs.Prelude.{All}
 use Rattle.std.specs.Str.{bytes_eq}
 use Rattle.std.proofs.lemmas.List.Elements.{All-nil, All-cons, All-head, All-tail}
 use Rattle.es_model.specs.Declaration.{app_named}
@@ -15,11 +15,11 @@ use Rattle.es_mapper.specs.Mapping.{stored}
 use Rattle.es_domain.specs.Decision.{Decided, Notice, rules_from, rules_of}
 use Rattle.es_domain.specs.Effect.{made}
 use Rattle.es_domain.specs.Fold.{advanced}
-use Rattle.es_domain.specs.Readings.{Reading, Readings, folded, unreadable}
+use Rattle.es_domain.specs.Readings.{Reading, Readings}
 use Rattle.es_domain.specs.declared.aggregate.Aggregate.{Aggregate}
 use Rattle.es_domain.specs.declared.command.Decision.TheVariants as decision
 use Rattle.es_domain.specs.declared.find.FindFault.TheVariants.{Unreadable, Failed, NoMemory}
-use Rattle.es_repo.specs.Policies.{placed_from, new_of, read_new, then_read, readings_with, readings_behind, IsReadBack, AreReadBack, after_rule, rules_by, policy_by}
+use Rattle.es_repo.specs.Policies.{new_of, read_new, then_read, readings_with, readings_behind, IsReadBack, AreReadBack, after_rule, rules_by, policy_by}
 use Rattle.es_repo.specs.Readings.{notifications_of, advanced_by, after_entry, read_from, readings_of}
 use Rattle.es_repo.specs.Verdicts.{verdict_of, AcceptsAs}
 use Rattle.es_repo.specs.declared.verdict.Verdict.{Verdict}

@@ -1,5 +1,5 @@
 -- What a policy decides: each of its rules over the notifications of an aggregate, followed by the new events of the rules before it.
-use Rattle.std.specs.Prelude.{ℤ, ℕ, ◌≡◌, ◌+◌, All, List, [], ◌∷◌, ◌++◌, length, map, filter, Option, None, Some, Ok, Err}
+use Rattle.std.specs.Prelude.{ℤ, ℕ, ◌≡◌, ◌+◌, All, List, [], ◌∷◌, ◌++◌, length, map, filter, Option, Some, Ok, Err}
 use Rattle.std.specs.Str.{bytes_eq}
 use Rattle.es_model.specs.Declaration.{app_named}
 use Rattle.es_model.specs.Values.{Name, Id}

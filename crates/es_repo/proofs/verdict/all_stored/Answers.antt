@@ -1,7 +1,6 @@
 use Rattle.std.proofs.Common.{◌≡◌, ◌<◌, arith, get_or, length, rules, subst, sym}
 use Rattle.std.proofs.lemmas.Grind.{common_steps}
 use Rattle.std.proofs.lemmas.List.Elements.{All-get_or, All-more}
-use Rattle.es_model.specs.declared.domain_event.DomainEvent.{DomainEvent}
 use Rattle.es_domain.specs.Decision.{IsNewEvent}
 use Rattle.es_repo.specs.Policies.{IsReadBack}
 use Rattle.es_repo.proofs.verdict.all_stored.Goals as goal
