@@ -23,7 +23,7 @@ use Rattle.es_mapper.specs.Mapping.{IsDeclared, IsEvent, stored}
 use Rattle.es_mapper.proofs.MappedLemmas.{event-of}
 use Rattle.es_domain.specs.Decision.{IsNewEvent}
 use Rattle.es_domain.specs.Steps.{IsOfTopic}
-use Rattle.es_repo.specs.Policies.{IsReadBack}
+use Rattle.es_repo.specs.inner.Stored.{IsReadBack}
 
 -- ---- fields have no name of the members that stand beside them
 

@@ -1,8 +1,8 @@
--- Where a policy gives events that are read back as they are stored, it gives the same over the stored ones.
+-- Where the events that its rules give are read back as they are stored, a policy decides the same over the stored ones.
 use Rattle.std.proofs.Common.{ℤ, ℕ, ◌≡◌, ◌∙◌, ◌+◌, Bool, true, false, List, [], ◌∷◌, ◌++◌, map, Option, None, Some, Ok, Err, IfOk, length, refl, sym, ap, subst, arith, append-nil, append_assoc}
 use Rattle.std.specs.Prelude.{All}
 use Rattle.std.specs.Str.{bytes_eq}
-use Rattle.std.proofs.lemmas.List.Elements.{All-nil, All-cons, All-head, All-tail}
+use Rattle.std.proofs.lemmas.List.Elements.{All-nil, All-cons, All-head, All-tail, All-append}
 use Rattle.es_model.specs.Declaration.{app_named}
 use Rattle.es_model.specs.Values.{Name, Id}
 use Rattle.es_model.specs.declared.declaration.Rule.{Rule}
@@ -15,14 +15,15 @@ use Rattle.es_mapper.specs.Mapping.{stored}
 use Rattle.es_domain.specs.Decision.{Decided, Notice, rules_from, rules_of}
 use Rattle.es_domain.specs.Effect.{made}
 use Rattle.es_domain.specs.Fold.{advanced}
-use Rattle.es_domain.specs.Readings.{Reading, Readings}
+use Rattle.es_domain.specs.Readings.{Reading}
 use Rattle.es_domain.specs.declared.aggregate.Aggregate.{Aggregate}
 use Rattle.es_domain.specs.declared.command.Decision.TheVariants as decision
 use Rattle.es_domain.specs.declared.find.FindFault.TheVariants.{Unreadable, Failed, NoMemory}
-use Rattle.es_repo.specs.Policies.{new_of, read_new, then_read, readings_with, readings_behind, IsReadBack, AreReadBack, after_rule, rules_by, policy_by}
+use Rattle.es_repo.specs.Policies.{new_of, read_new, then_read, readings_with, readings_behind, after_rule, rules_by, policy_by}
 use Rattle.es_repo.specs.Readings.{notifications_of, advanced_by, after_entry, read_from, readings_of}
 use Rattle.es_repo.specs.Verdicts.{verdict_of, AcceptsAs}
 use Rattle.es_repo.specs.declared.verdict.Verdict.{Verdict}
+use Rattle.es_repo.specs.inner.Stored.{IsReadBack, AreReadBack}
 use Rattle.es_repo.proofs.LogLemmas.{entries}
 
 -- ---- the notifications of a longer log
@@ -92,37 +93,68 @@ module _ (sys : System) where
     rule-begins new es (Ok (decision.Refused code rule)) rest begins is = absurd (cc is)
     rule-begins new es (Err fault) rest begins is = absurd (cc is)
 
+    first-back : (xs ys : List DomainEvent) → All (IsReadBack sys) (xs ++ ys) → All (IsReadBack sys) xs
+    first-back [] ys back = All-nil (IsReadBack sys)
+    first-back (x ∷ xs) ys back = All-cons (IsReadBack sys) x xs (All-head (IsReadBack sys) x (xs ++ ys) back) (first-back xs ys (All-tail (IsReadBack sys) x (xs ++ ys) back))
+
+    last-back : (xs ys : List DomainEvent) → All (IsReadBack sys) (xs ++ ys) → All (IsReadBack sys) ys
+    last-back [] ys back = back
+    last-back (x ∷ xs) ys back = last-back xs ys (All-tail (IsReadBack sys) x (xs ++ ys) back)
+
+    -- the events of a rule are read back as they are stored, and those of the rules after it
+    abbrev pub IsBackThen : List DomainEvent → Decided → (List DomainEvent → Type 0) → Type 0
+    IsBackThen new (Ok (decision.Events more)) rest = All (IsReadBack sys) more × rest (new ++ more)
+    IsBackThen new (Ok (decision.Refused code rule)) rest = Unit {0}
+    IsBackThen new (Err fault) rest = Unit {0}
+
     module _ (n : Notice) (at : ℤ) where
-      rules-begin : (read : List DomainEvent → Readings) (rule : ℕ) (rules : List Rule) (new es : List DomainEvent) → rules_by sys n at read rule rules new ≡ Ok (decision.Events es) → Begins new es
-      rules-begin read rule [] new es is = let same : es ≡ new = cc in ([], same ∙ sym (append-nil new))
-      rules-begin read rule (r ∷ rules) new es is =
-          rule-begins new es (rules_from sys n at rule (r ∷ []) (read new)) (rules_by sys n at read (rule + 1) rules) (λ xs more. rules-begin read (rule + 1) rules xs es more) is
+      -- all events that some rules give, whatever the policy decides in the end, are read back as they are stored
+      abbrev pub GiveBack : ℕ → List Rule → List DomainEvent → Type 0
+      GiveBack rule [] new = Unit {0}
+      GiveBack rule (r ∷ rules) new = IsBackThen new (rules_from sys n at rule (r ∷ []) (readings_with sys events new)) (GiveBack (rule + 1) rules)
 
-      first-back : (new more : List DomainEvent) → All (IsReadBack sys) (new ++ more) → All (IsReadBack sys) new
-      first-back [] more back = All-nil (IsReadBack sys)
-      first-back (e ∷ new) more back =
-          All-cons (IsReadBack sys) e new (All-head (IsReadBack sys) e (new ++ more) back) (first-back new more (All-tail (IsReadBack sys) e (new ++ more) back))
+      rule-stored : (new : List DomainEvent) (d : Decided) (give : List DomainEvent → Type 0) (by stored_by : List DomainEvent → Decided) → All (IsReadBack sys) new → ((xs : List DomainEvent) → All (IsReadBack sys) xs → give xs → stored_by xs ≡ by xs)
+          → IsBackThen new d give → after_rule new d stored_by ≡ after_rule new d by
+      rule-stored new (Ok (decision.Events more)) give by stored_by back rest gives = rest (new ++ more) (All-append (IsReadBack sys) new more back gives.0) gives.1
+      rule-stored new (Ok (decision.Refused code rule)) give by stored_by back rest gives = refl
+      rule-stored new (Err fault) give by stored_by back rest gives = refl
 
-      rule-back : (new es : List DomainEvent) (d : Decided) (with behind : List DomainEvent → Decided) → ((xs : List DomainEvent) → with xs ≡ Ok (decision.Events es) → behind xs ≡ Ok (decision.Events es))
-          → after_rule new d with ≡ Ok (decision.Events es) → after_rule new d behind ≡ Ok (decision.Events es)
-      rule-back new es (Ok (decision.Events more)) with behind rest is = rest (new ++ more) is
-      rule-back new es (Ok (decision.Refused code rule)) with behind rest is = absurd (cc is)
-      rule-back new es (Err fault) with behind rest is = absurd (cc is)
-
-      rules-back : (rule : ℕ) (rules : List Rule) (new es : List DomainEvent) → All (IsReadBack sys) es → rules_by sys n at (readings_with sys events) rule rules new ≡ Ok (decision.Events es)
-          → rules_by sys n at (readings_behind sys events) rule rules new ≡ Ok (decision.Events es)
-      rules-back rule [] new es back is = is
-      rules-back rule (r ∷ rules) new es back is =
-          let begins = rules-begin (readings_with sys events) rule (r ∷ rules) new es is in
-          let reads = behind new (first-back new begins.0 (subst (All (IsReadBack sys)) begins.1 back)) in
+      rules-stored : (rule : ℕ) (rules : List Rule) (new : List DomainEvent) → All (IsReadBack sys) new → GiveBack rule rules new → rules_by sys n at (readings_behind sys events) rule rules new ≡ rules_by sys n at (readings_with sys events) rule rules new
+      rules-stored rule [] new back gives = refl
+      rules-stored rule (r ∷ rules) new back gives =
           let rest = rules_by sys n at (readings_behind sys events) (rule + 1) rules in
-          ap (λ r'. after_rule new (rules_from sys n at rule (r ∷ []) r') rest) reads
-          ∙ rule-back new es (rules_from sys n at rule (r ∷ []) (readings_with sys events new)) (rules_by sys n at (readings_with sys events) (rule + 1) rules) rest (λ xs more. rules-back (rule + 1) rules xs es back more) is
+          ap (λ readings. after_rule new (rules_from sys n at rule (r ∷ []) readings) rest) (behind new back)
+          ∙ rule-stored new (rules_from sys n at rule (r ∷ []) (readings_with sys events new)) (GiveBack (rule + 1) rules) (rules_by sys n at (readings_with sys events) (rule + 1) rules) rest back (λ xs all. rules-stored (rule + 1) rules xs all) gives
 
-    -- events that a policy gives, and that are read back as they are stored, are what it gives over the stored ones
-    pub policy-back : (app : Name) (n : Notice) (at : ℤ) (es : List DomainEvent) → All (IsReadBack sys) es → policy_by sys app n at (readings_with sys events) ≡ Ok (decision.Events es)
+      -- ---- rules that give events in the end
+
+      rules-begin : (rule : ℕ) (rules : List Rule) (new es : List DomainEvent) → rules_by sys n at (readings_with sys events) rule rules new ≡ Ok (decision.Events es) → Begins new es
+      rules-begin rule [] new es is = let same : es ≡ new = cc in ([], same ∙ sym (append-nil new))
+      rules-begin rule (r ∷ rules) new es is =
+          rule-begins new es (rules_from sys n at rule (r ∷ []) (readings_with sys events new)) (rules_by sys n at (readings_with sys events) (rule + 1) rules) (λ xs more. rules-begin (rule + 1) rules xs es more) is
+
+      rule-gives : (new es : List DomainEvent) (d : Decided) (give : List DomainEvent → Type 0) (by : List DomainEvent → Decided) → All (IsReadBack sys) es → ((xs : List DomainEvent) → by xs ≡ Ok (decision.Events es) → Begins xs es × give xs)
+          → after_rule new d by ≡ Ok (decision.Events es) → IsBackThen new d give
+      rule-gives new es (Ok (decision.Events more)) give by back rest is =
+          let r = rest (new ++ more) is in
+          (last-back new more (first-back (new ++ more) r.0.0 (subst (All (IsReadBack sys)) r.0.1 back)), r.1)
+      rule-gives new es (Ok (decision.Refused code rule)) give by back rest is = tt
+      rule-gives new es (Err fault) give by back rest is = tt
+
+      rules-give : (rule : ℕ) (rules : List Rule) (new es : List DomainEvent) → All (IsReadBack sys) es → rules_by sys n at (readings_with sys events) rule rules new ≡ Ok (decision.Events es) → GiveBack rule rules new
+      rules-give rule [] new es back is = tt
+      rules-give rule (r ∷ rules) new es back is =
+          rule-gives new es (rules_from sys n at rule (r ∷ []) (readings_with sys events new)) (GiveBack (rule + 1) rules) (rules_by sys n at (readings_with sys events) (rule + 1) rules) back
+          (λ xs more. (rules-begin (rule + 1) rules xs es more, rules-give (rule + 1) rules xs es back more)) is
+
+    -- where all that the rules give is read back as it is stored, a policy decides the same over the stored events, whatever it decides
+    pub policy-stored : (app : Name) (n : Notice) (at : ℤ) → GiveBack n at 1 (rules_of (app_named sys.apps app)) [] → policy_by sys app n at (readings_behind sys events) ≡ policy_by sys app n at (readings_with sys events)
+    policy-stored app n at gives = rules-stored n at 1 (rules_of (app_named sys.apps app)) [] (All-nil (IsReadBack sys)) gives
+
+    -- that is so where it gives events in the end, all of which are read back
+    policy-back : (app : Name) (n : Notice) (at : ℤ) (es : List DomainEvent) → All (IsReadBack sys) es → policy_by sys app n at (readings_with sys events) ≡ Ok (decision.Events es)
         → policy_by sys app n at (readings_behind sys events) ≡ Ok (decision.Events es)
-    policy-back app n at es back is = rules-back n at 1 (rules_of (app_named sys.apps app)) [] es back is
+    policy-back app n at es back is = policy-stored app n at (rules-give n at 1 (rules_of (app_named sys.apps app)) [] es back is) ∙ is
 
 -- ---- verdicts
 

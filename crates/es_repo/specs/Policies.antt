@@ -1,5 +1,5 @@
 -- What a policy decides: each of its rules over the notifications of an aggregate, followed by the new events of the rules before it.
-use Rattle.std.specs.Prelude.{ℤ, ℕ, ◌≡◌, ◌+◌, All, List, [], ◌∷◌, ◌++◌, length, map, filter, Option, Some, Ok, Err}
+use Rattle.std.specs.Prelude.{ℤ, ℕ, ◌+◌, List, [], ◌∷◌, ◌++◌, length, map, filter, Option, Some, Ok, Err}
 use Rattle.std.specs.Str.{bytes_eq}
 use Rattle.es_model.specs.Declaration.{app_named}
 use Rattle.es_model.specs.Values.{Name, Id}
@@ -7,14 +7,12 @@ use Rattle.es_model.specs.declared.declaration.Rule.{Rule}
 use Rattle.es_model.specs.declared.declaration.System.{System}
 use Rattle.es_model.specs.declared.domain_event.DomainEvent.{DomainEvent}
 use Rattle.es_model.specs.declared.event.StoredEvent.{StoredEvent}
-use Rattle.es_mapper.specs.Mapped.{event_of}
 use Rattle.es_mapper.specs.Mapping.{stored}
 use Rattle.es_domain.specs.Decision.{Decided, Notice, rules_from, rules_of}
 use Rattle.es_domain.specs.Effect.{made}
 use Rattle.es_domain.specs.Fold.{advanced}
 use Rattle.es_domain.specs.Readings.{Reading, folded, unreadable, Readings}
 use Rattle.es_domain.specs.declared.aggregate.Aggregate.{Aggregate}
-use Rattle.es_domain.specs.declared.command.Decision.{Decision}
 use Rattle.es_domain.specs.declared.command.Decision.TheVariants as decision
 use Rattle.es_repo.specs.Readings.{after_entry, readings_of}
 
@@ -46,14 +44,6 @@ readings_with sys events new = λ id. then_read (readings_of sys events id) (λ 
 -- the same, where the new events are stored behind the log and are read back
 abbrev pub readings_behind : System → List StoredEvent → List DomainEvent → Readings
 readings_behind sys events new = readings_of sys (events ++ map (stored sys) new)
-
--- an event is read back as itself once it is stored
-abbrev pub IsReadBack : System → DomainEvent → Type 0
-IsReadBack sys e = event_of sys (stored sys e) ≡ Some e
-
-abbrev pub AreReadBack : System → Decision → Type 0
-AreReadBack sys (decision.Events es) = All (IsReadBack sys) es
-AreReadBack sys (decision.Refused code rule) = Unit {0}
 
 -- ---- the rules, one after the other
 

@@ -4,8 +4,8 @@ ghost use Rattle.es_expr.specs.Checked.{IsCheckedSystem};
 ghost use Rattle.es_mapper.specs.Mapping.{stored};
 ghost use Rattle.es_domain.specs.Decision.{Decided, Decides, AreNewEvents, IsNewEvent};
 ghost use Rattle.es_domain.specs.declared.find.FindFault.TheVariants as find_faults;
-ghost use Rattle.es_repo.specs.Policies.{AreReadBack, IsReadBack};
 ghost use Rattle.es_repo.specs.Verdicts.{verdict_of, IsSmallVerdict};
+ghost use Rattle.es_repo.specs.inner.Stored.{AreReadBack, IsReadBack};
 
 use es_domain::{Decision, FindFault};
 use es_mapper::to_stored;

@@ -1,8 +1,9 @@
 use Rattle.std.proofs.Common.{◌≡◌, IfOk, refl, sym, subst}
 use Rattle.es_model.specs.History.{log}
 use Rattle.es_domain.specs.Decision.{notice}
-use Rattle.es_repo.specs.Policies.{policy_by, readings_with, AreReadBack}
+use Rattle.es_repo.specs.Policies.{policy_by, readings_with}
 use Rattle.es_repo.specs.Verdicts.{policy_verdict, stored_verdict, AcceptsAs, FollowsIn}
+use Rattle.es_repo.specs.inner.Stored.{AreReadBack}
 use Rattle.es_repo.proofs.FollowsLemmas.{policy-follows}
 use Rattle.es_repo.proofs.JudgeLemmas.{if-ok, both-ok, cause-of}
 use Rattle.es_repo.proofs.StoredLemmas.{accepts}

@@ -2,7 +2,7 @@ use Rattle.std.proofs.Common.{◌≡◌, ◌<◌, arith, get_or, length, rules, 
 use Rattle.std.proofs.lemmas.Grind.{common_steps}
 use Rattle.std.proofs.lemmas.List.Elements.{All-get_or, All-more}
 use Rattle.es_domain.specs.Decision.{IsNewEvent}
-use Rattle.es_repo.specs.Policies.{IsReadBack}
+use Rattle.es_repo.specs.inner.Stored.{IsReadBack}
 use Rattle.es_repo.proofs.verdict.all_stored.Goals as goal
 
 pub loop-event-preserved : goal.loop-event-preserved

@@ -3,7 +3,7 @@ use Rattle.std.specs.Prelude.{All}
 use Rattle.es_expr.specs.Checked.{IsCheckedSystem}
 use Rattle.es_mapper.specs.Mapping.{stored}
 use Rattle.es_domain.specs.Decision.{IsNewEvent}
-use Rattle.es_repo.specs.Policies.{IsReadBack}
+use Rattle.es_repo.specs.inner.Stored.{IsReadBack}
 use Rattle.es_repo.proofs.verdict.all_stored.Given as goal
 
 abbrev pub invariant-loop-event : goal.invariant-loop-event

@@ -1,6 +1,6 @@
 use Rattle.std.proofs.Common.{◌≡◌}
 use Rattle.es_mapper.specs.Mapping.{IsDeclared, IsEvent, stored}
-use Rattle.es_repo.specs.Policies.{IsReadBack}
+use Rattle.es_repo.specs.inner.Stored.{IsReadBack}
 use Rattle.es_repo.proofs.BackLemmas.{new-back}
 use Rattle.es_repo.proofs.JudgeLemmas.{if-ok, both-ok}
 use Rattle.es_repo.proofs.verdict.one_stored.Goals as goal
