@@ -1,33 +1,39 @@
 //! Cases of a recorder in memory: what it answers to some steps, in order. Behind a fuse the steps
 //! `then` are those of the recorder that the fuse gives back.
 
-use crate::members::{items_of, number_or};
-use crate::recordings::history;
-use crate::steps;
 use anyhow::Context;
 use es_memory::{FuseRecorder, MemoryRecorder, is_formed};
 use es_model::Snapshots;
 use es_model::limits::NUMBERS_END;
+use es_steps::recordings::history;
+use es_steps::steps;
+use es_suite::given;
+use es_suite::told::Items;
 use serde_json::Value;
 use std::alloc::Global;
 
-/// A recorder with the history of a case and its capacity.
-pub(crate) fn recorder(
-    alloc: Global,
-    held: &[Value],
-    capacity: u64,
-) -> anyhow::Result<MemoryRecorder> {
-    if capacity >= NUMBERS_END {
-        return Err(anyhow::anyhow!("too great a capacity"));
-    }
-    if held.is_empty() {
-        return Ok(MemoryRecorder::new(alloc, capacity));
-    }
+// A recorder with a history that isn't empty.
+fn with(alloc: Global, held: &[Value], capacity: u64) -> anyhow::Result<MemoryRecorder> {
     let history = history(alloc, held)?;
-    if !is_formed(&history) {
-        return Err(anyhow::anyhow!("a history that isn't formed"));
+    if capacity < NUMBERS_END && is_formed(&history) {
+        let recorder = MemoryRecorder::with(alloc, history, Snapshots::new(alloc), capacity)?;
+        Ok(recorder)
+    } else {
+        Err(anyhow::anyhow!("a history that isn't formed, or too great a capacity"))
     }
-    Ok(MemoryRecorder::with(alloc, history, Snapshots::new(alloc), capacity)?)
+}
+
+/// A recorder with the history of a case and its capacity.
+pub(crate) fn recorder(alloc: Global, case: &Value) -> anyhow::Result<MemoryRecorder> {
+    let held = given::items_if_any(case, "held");
+    let capacity = given::number_or(case, "capacity", 9);
+    if capacity >= NUMBERS_END {
+        Err(anyhow::anyhow!("too great a capacity"))
+    } else if held.is_empty() {
+        Ok(MemoryRecorder::new(alloc, capacity))
+    } else {
+        with(alloc, held, capacity)
+    }
 }
 
 // Puts a recorder behind a fuse, and takes it out again after some steps.
@@ -36,35 +42,37 @@ fn fused(
     recorder: MemoryRecorder,
     fuse: &Value,
     trees: &[Value],
-    answers: &mut Vec<Value>,
+    answers: &mut Items,
 ) -> anyhow::Result<MemoryRecorder> {
-    let calls = fuse
-        .get("calls")
-        .and_then(Value::as_u64)
-        .context("no calls")?;
-    let after = fuse
-        .get("after")
-        .and_then(Value::as_bool)
-        .context("no effect")?;
-    let mut fuse = FuseRecorder::new(recorder, calls, after);
+    let calls = given::number(fuse, "calls")?;
+    let after = fuse.get("after").and_then(Value::as_bool);
+    let mut fuse = FuseRecorder::new(recorder, calls, after.context("no effect")?);
     steps::answers(alloc, &mut fuse, trees, answers)?;
     Ok(fuse.into_inner())
 }
 
-/// What a recorder answers to each step.
-pub(crate) fn answers(alloc: Global, case: &Value, trees: &Value) -> anyhow::Result<Value> {
-    let trees = trees.as_array().context("no steps")?;
-    let mut recorder = recorder(
-        alloc,
-        items_of(case, "held"),
-        number_or(case, "capacity", 9),
-    )?;
-    let mut answers = Vec::new(alloc);
-    if let Some(fuse) = case.get("fuse") {
-        recorder = fused(alloc, recorder, fuse, trees.as_slice(), &mut answers)?;
-    } else {
-        steps::answers(alloc, &mut recorder, trees.as_slice(), &mut answers)?;
+// Lets a recorder answer some steps, behind a fuse where the case has one.
+fn stepped(
+    alloc: Global,
+    mut recorder: MemoryRecorder,
+    case: &Value,
+    answers: &mut Items,
+) -> anyhow::Result<MemoryRecorder> {
+    let trees = given::items(case, "recorder")?;
+    match case.get("fuse") {
+        Some(fuse) => fused(alloc, recorder, fuse, trees, answers),
+        None => {
+            steps::answers(alloc, &mut recorder, trees, answers)?;
+            Ok(recorder)
+        }
     }
-    steps::answers(alloc, &mut recorder, items_of(case, "then"), &mut answers)?;
-    Ok(Value::Array(answers))
+}
+
+/// What a recorder answers to each step.
+pub(crate) fn answer(alloc: Global, case: &Value) -> anyhow::Result<Value> {
+    let mut answers = Items::new(alloc);
+    let mut recorder = stepped(alloc, recorder(alloc, case)?, case, &mut answers)?;
+    let then = given::items_if_any(case, "then");
+    steps::answers(alloc, &mut recorder, then, &mut answers)?;
+    answers.end()
 }

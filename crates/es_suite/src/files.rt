@@ -63,6 +63,12 @@ fn run_line<S: Suite>(
     wrong(suite, alloc, file, base, &case)
 }
 
+// Whether the first line of a file says where its wanted answers come from.
+fn has_source(alloc: Global, text: &str) -> anyhow::Result<bool> {
+    let first = Value::from_str(alloc, text.lines().next().unwrap_or(""))?;
+    Ok(first.get("from").and_then(Value::as_str).is_some())
+}
+
 // Runs the cases of a file, and prints what is wrong.
 fn run_file<S: Suite>(
     rt: &(impl Files + Print + AllocGlobal),
@@ -71,6 +77,9 @@ fn run_file<S: Suite>(
 ) -> anyhow::Result<()> {
     let alloc = rt.alloc();
     let text = fs::read_to_string(rt, file)?;
+    if !has_source(alloc, text.as_str())? {
+        println!(rt; "{file}: the first line doesn't say where the wanted answers come from")?;
+    }
     let mut base = Value::Null;
     let mut tally = Tally { cases: 0, wrong: 0 };
     for (place, line) in (1u64..).zip(text.as_str().lines()) {
@@ -86,8 +95,8 @@ fn run_file<S: Suite>(
 }
 
 /// Runs the cases of the files that the words name, one JSON object a line, and prints each whose answer isn't
-/// the wanted one, and how many there were in each file. A line with `from` says where a file's wanted answers
-/// come from, and one with `base` gives the document that later cases are about.
+/// the wanted one, and how many there were in each file. A file's first line says by `from` where its wanted answers
+/// come from, and a line with `base` gives the document that later cases are about.
 pub fn run<S: Suite>(
     rt: &(impl Env + Files + Print + AllocGlobal),
     suite: &S,

@@ -37,6 +37,19 @@ pub fn items<'a>(tree: &'a Value, name: &str) -> anyhow::Result<&'a [Value]> {
     Ok(items.context("no array")?.as_slice())
 }
 
+/// The items of a list, none where the member is absent.
+pub fn items_if_any<'a>(tree: &'a Value, name: &str) -> &'a [Value] {
+    match tree.get(name).and_then(Value::as_array) {
+        Some(items) => items.as_slice(),
+        None => &[],
+    }
+}
+
+/// A number, or another one where the member is absent.
+pub fn number_or(tree: &Value, name: &str, other: u64) -> u64 {
+    tree.get(name).and_then(Value::as_u64).unwrap_or(other)
+}
+
 /// Numbers of calls, none where the member is absent.
 pub fn calls(alloc: Global, tree: &Value, name: &str) -> anyhow::Result<Calls> {
     let mut calls = Calls::new(alloc);

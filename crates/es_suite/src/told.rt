@@ -1,6 +1,6 @@
 //! What is told of an answer: objects member by member, lists item by item, and the words of faults.
 
-use es_model::Code;
+use es_model::{CallFault, Code};
 use es_transcode::{DecodeFault, id_text};
 use serde_json::{Map, ToValue, Value};
 use std::alloc::Global;
@@ -118,6 +118,18 @@ impl Items {
         }
     }
 
+    /// Tells a list.
+    pub fn put_items(&mut self, items: Items) {
+        self.is_lost |= items.is_lost;
+        self.put_value(Value::Array(items.items));
+    }
+
+    /// Tells an object.
+    pub fn put_members(&mut self, members: Members) {
+        self.is_lost |= members.is_lost;
+        self.put_value(Value::Object(members.members));
+    }
+
     /// The list.
     pub fn end(self) -> anyhow::Result<Value> {
         if self.is_lost {
@@ -153,6 +165,30 @@ pub fn fault(alloc: Global, name: &str) -> anyhow::Result<Value> {
 /// That memory was out, which no case wants.
 pub fn no_memory<T: Drop>() -> anyhow::Result<T> {
     Err(anyhow::anyhow!("out of memory"))
+}
+
+/// Numbers one after the other.
+pub fn numbers(alloc: Global, numbers: &[u64]) -> Items {
+    let mut items = Items::new(alloc);
+    for number in numbers {
+        items.put(*number);
+    }
+    items
+}
+
+/// An object of one member, which is a list.
+pub fn lone(alloc: Global, name: &str, items: Items) -> anyhow::Result<Value> {
+    let mut told = Members::new(alloc);
+    told.put_items(name, items);
+    told.end()
+}
+
+/// A call that failed.
+pub fn failed(alloc: Global, fault: &CallFault) -> anyhow::Result<Value> {
+    match fault {
+        CallFault::Failed => text(alloc, "failed"),
+        CallFault::NoMemory => no_memory(),
+    }
 }
 
 /// A code with the path of its place.
