@@ -1,36 +1,34 @@
 //! Cases of an application over its recorder: what it makes of lines and of a leader's notifications.
 
-ghost use Rattle.std.specs.Prelude.{IfOk};
+ghost use Rattle.std.specs.Prelude.{IsTrue, IfOk};
+ghost use Rattle.es_model.specs.declared.declaration.System.{System as Declared};
 ghost use Rattle.es_expr.specs.Checked.{IsCheckedSystem};
-ghost use Rattle.es_lines.specs.Requests.{IsDeclared};
+ghost use Rattle.es_lines.specs.Requests.{IsOfSystem};
+ghost use Rattle.es_process.specs.Leaves.{MayAsk};
 
-use crate::members::{items_of, number_or, readings, text_of, word};
 use crate::recorders::recorder;
-use crate::recordings::history_tree;
-use crate::verdicts::{notification, system};
-use anyhow::Context;
-use es_domain::Command;
+use crate::systems::{clock, system};
+use crate::verdicts::{is_notice, notification};
 use es_io::ListClock;
 use es_lines::{Request, read_line, reply_text};
 use es_memory::MemoryRecorder;
 use es_model::limits::NUMBERS_END;
-use es_model::{Moment, Notification, System, Text};
+use es_model::{Notification, System, Text};
 use es_process::{Application, Processed, RunFault};
-use serde_json::{Value, json};
+use es_steps::recordings::history_told;
+use es_suite::given;
+use es_suite::told::{self, Items, Members};
+use serde_json::Value;
 use std::alloc::Global;
 
 /// An application with the history, the capacity and the turns of a case.
 pub(crate) fn application(
     alloc: Global,
-    name: Text,
     case: &Value,
 ) -> anyhow::Result<Application<MemoryRecorder>> {
-    let recorder = recorder(
-        alloc,
-        items_of(case, "held"),
-        number_or(case, "capacity", 9),
-    )?;
-    let turns = number_or(case, "turns", 9);
+    let name = given::owned(alloc, case, "app")?;
+    let recorder = recorder(alloc, case)?;
+    let turns = given::number_or(case, "turns", 9);
     Ok(Application {
         name,
         recorder,
@@ -40,15 +38,28 @@ pub(crate) fn application(
 }
 
 /// How many notifications an application has recorded in this run, and all its recordings.
-pub(crate) fn left(alloc: Global, app: Application<MemoryRecorder>) -> anyhow::Result<Value> {
+pub(crate) fn left(alloc: Global, app: Application<MemoryRecorder>) -> Members {
     let Application {
         name: _,
         recorder,
         turns: _,
         used,
     } = app;
-    let held = history_tree(alloc, &recorder.into_parts().0)?;
-    Ok(json!(in alloc; {"held": held, "used": used})?)
+    let (history, _) = recorder.into_parts();
+    let mut told = Members::new(alloc);
+    told.put_items("held", history_told(alloc, history.as_slice()));
+    told.put("used", used);
+    told
+}
+
+// An application, and some numbers of it.
+fn of_app(alloc: Global, name: &str, app: &Text, numbers: &[u64]) -> anyhow::Result<Value> {
+    let mut told = Items::new(alloc);
+    told.put(app.as_str());
+    for number in numbers {
+        told.put(*number);
+    }
+    told::lone(alloc, name, told)
 }
 
 /// Why a run doesn't go on.
@@ -62,33 +73,39 @@ pub(crate) fn fault(alloc: Global, fault: &RunFault) -> anyhow::Result<Value> {
             code,
             rule,
         } => {
-            let (app, leader, code) = (app.as_str(), leader.as_str(), code.as_str());
-            Ok(json!(in alloc; {"refused": [app, leader, *id, *recordings, code, *rule]})?)
+            let mut told = Items::new(alloc);
+            told.put(app.as_str());
+            told.put(leader.as_str());
+            told.put(*id);
+            told.put(*recordings);
+            told.put(code.as_str());
+            told.put(*rule);
+            told::lone(alloc, "refused", told)
         }
-        RunFault::Turns { app, turns } => Ok(json!(in alloc; {"turns": [app.as_str(), *turns]})?),
-        RunFault::Unreadable { app, id } => Ok(
-            json!(in alloc; {"unreadable": [app.as_str(), *id]})?,
-        ),
+        RunFault::Turns { app, turns } => of_app(alloc, "turns", app, &[*turns]),
+        RunFault::Unreadable { app, id } => of_app(alloc, "unreadable", app, &[*id]),
         RunFault::Full {
             app,
             last,
             capacity,
-        } => { Ok(json!(in alloc; {"full": [app.as_str(), *last, *capacity]})?) }
-        RunFault::Recorder => Ok(word(alloc, "failed")?),
-        RunFault::NoMemory => Ok(word(alloc, "memory")?),
+        } => of_app(alloc, "full", app, &[*last, *capacity]),
+        RunFault::Recorder => told::text(alloc, "failed"),
+        RunFault::NoMemory => told::no_memory(),
     }
 }
 
 // What was made of a notification.
 fn told(alloc: Global, answer: &Result<Processed, RunFault>) -> anyhow::Result<Value> {
+    let mut told = Members::new(alloc);
     match answer {
-        Ok(Processed::Recorded { first, last }) => Ok(
-            json!(in alloc; {"recorded": [*first, *last]})?,
-        ),
-        Ok(Processed::Skipped { tracked }) => Ok(json!(in alloc; {"skipped": *tracked})?),
-        Ok(Processed::Gap { tracked }) => Ok(json!(in alloc; {"gap": *tracked})?),
-        Err(failed) => fault(alloc, failed),
+        Ok(Processed::Recorded { first, last }) => {
+            told.put_items("recorded", told::numbers(alloc, &[*first, *last]));
+        }
+        Ok(Processed::Skipped { tracked }) => told.put("skipped", *tracked),
+        Ok(Processed::Gap { tracked }) => told.put("gap", *tracked),
+        Err(failed) => return fault(alloc, failed),
     }
+    told.end()
 }
 
 // Lets the application process a leader's notification.
@@ -102,33 +119,34 @@ fn process(
 ) -> anyhow::Result<Value>
     requires { IsCheckedSystem sys.now }
 {
-    if sys.app(leader.as_str()).is_none() || sys.app(app.name.as_str()).is_none() {
-        return Err(anyhow::anyhow!("no application"));
+    if is_notice(sys, &app.name, leader, given) {
+        told(alloc, &app.process(alloc, sys, leader, given, clock))
+    } else {
+        Err(anyhow::anyhow!("no application, or too great a number"))
     }
-    if given.id >= NUMBERS_END || given.event.originator_version >= NUMBERS_END {
-        return Err(anyhow::anyhow!("too great a number"));
-    }
-    told(alloc, &app.process(alloc, sys, leader, given, clock))
 }
 
-// The command of an application that a line asks.
-fn asked(alloc: Global, sys: &System, name: &Text, line: &str) -> anyhow::Result<Command>
-    ensures { IfOk result (IsDeclared sys.now name.now) }
+// What a line asks.
+fn request(alloc: Global, sys: &System, line: &str) -> anyhow::Result<Request>
+    ensures { IfOk result (IsOfSystem sys.now) }
 {
     match read_line(alloc, sys, line.as_bytes()) {
-        Ok(Request::Do { app, command }) => {
-            if app.as_str() == name.as_str() {
-                Ok(command)
-            } else {
-                Err(anyhow::anyhow!("another application"))
-            }
-        }
-        Ok(_) => Err(anyhow::anyhow!("no command")),
+        Ok(request) => Ok(request),
         Err(fault) => Err(fault.into()),
     }
 }
 
-// The reply of the application to a line.
+// Whether what a line asks may be asked of the application of a name.
+fn may_ask(name: &Text, request: &Request) -> bool
+    ensures { (sys : Declared) → IsOfSystem sys request.now → IsTrue result → MayAsk sys name.now request.now }
+{
+    match request {
+        Request::Do { app, command: _ } => app.as_str() == name.as_str(),
+        _ => true,
+    }
+}
+
+// The reply of the application to what a line asks.
 fn reply(
     alloc: Global,
     sys: &System,
@@ -139,8 +157,11 @@ fn reply(
     requires { IsCheckedSystem sys.now }
 {
     let line = line.to_string(alloc)?;
-    let command = asked(alloc, sys, &app.name, line.as_str())?;
-    match app.answer(alloc, sys, &command, clock) {
+    let request = request(alloc, sys, line.as_str())?;
+    if !may_ask(&app.name, &request) {
+        return Err(anyhow::anyhow!("another application"));
+    }
+    match app.answer(alloc, sys, &request, clock) {
         Ok(reply) => {
             let text = reply_text(alloc, &reply)?;
             Ok(Value::from_str(alloc, str::from_utf8(text.as_slice())?)?)
@@ -177,8 +198,23 @@ fn tracked(
     }
 }
 
+// The answer to a leader's notification.
+fn noticed(
+    alloc: Global,
+    sys: &System,
+    app: &mut Application<MemoryRecorder>,
+    step: &Value,
+    clock: &mut ListClock,
+) -> anyhow::Result<Value>
+    requires { IsCheckedSystem sys.now }
+{
+    let leader = given::owned(alloc, step, "leader")?;
+    let given = notification(alloc, step)?;
+    process(alloc, sys, app, &leader, &given, clock)
+}
+
 // The answer to a step.
-fn answer(
+fn stepped(
     alloc: Global,
     sys: &System,
     app: &mut Application<MemoryRecorder>,
@@ -192,28 +228,38 @@ fn answer(
     } else if let Some(after) = step.get("after").and_then(Value::as_u64) {
         next(alloc, app, after)
     } else if step.get("tracked").is_some() {
-        tracked(alloc, app, &text_of(alloc, step, "tracked")?)
+        tracked(alloc, app, &given::owned(alloc, step, "tracked")?)
     } else {
-        let leader = text_of(alloc, step, "leader")?;
-        let given = notification(alloc, step)?;
-        process(alloc, sys, app, &leader, &given, clock)
+        noticed(alloc, sys, app, step, clock)
     }
 }
 
-/// What an application answers to each step, and what it holds then.
-pub(crate) fn answers(
+// The answers to some steps.
+fn answers(
     alloc: Global,
-    base: &str,
-    case: &Value,
-    steps: &Value,
-) -> anyhow::Result<Value> {
-    let sys = system(alloc, base)?;
-    let mut app = application(alloc, text_of(alloc, case, "app")?, case)?;
-    let mut clock = ListClock::new(readings(alloc, case)?, Moment::nearest(0));
-    let mut answers = Vec::new(alloc);
-    for step in steps.as_array().context("no steps")?.iter() {
-        answers.push(answer(alloc, &sys, &mut app, step, &mut clock)?)?;
+    sys: &System,
+    app: &mut Application<MemoryRecorder>,
+    steps: &[Value],
+    clock: &mut ListClock,
+) -> anyhow::Result<Items>
+    requires { IsCheckedSystem sys.now }
+{
+    let mut answers = Items::new(alloc);
+    for step in steps {
+        answers.put(stepped(alloc, sys, app, step, clock)?);
     }
-    let left = left(alloc, app)?;
-    Ok(json!(in alloc; {"answers": Value::Array(answers), "left": left})?)
+    Ok(answers)
+}
+
+/// What an application answers to each step, and what it holds then.
+pub(crate) fn answer(alloc: Global, base: &Value, case: &Value) -> anyhow::Result<Value> {
+    let steps = given::items(case, "application")?;
+    let sys = system(alloc, base)?;
+    let mut clock = clock(alloc, case)?;
+    let mut app = application(alloc, case)?;
+    let answers = answers(alloc, &sys, &mut app, steps, &mut clock)?;
+    let mut told = Members::new(alloc);
+    told.put_items("answers", answers);
+    told.put_members("left", left(alloc, app));
+    told.end()
 }

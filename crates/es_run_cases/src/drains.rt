@@ -7,15 +7,16 @@ ghost use Rattle.es_process.specs.Standing.{names_in};
 ghost use Rattle.es_process.specs.SystemRules.{app_names};
 
 use crate::applications::{application, fault, left};
-use crate::members::{items_of, readings, text_of, word};
-use crate::verdicts::system;
+use crate::systems::{clock, system};
 use anyhow::Context;
 use es_decl::pairs;
 use es_io::ListClock;
 use es_memory::MemoryRecorder;
-use es_model::{Duplicate, Moment, System, Text};
+use es_model::{Duplicate, System, Text};
 use es_process::{Application, Pair, drain};
-use serde_json::{Value, json};
+use es_suite::given;
+use es_suite::told::{self, Members};
+use serde_json::Value;
 use std::alloc::Global;
 
 // Whether these are two applications of these names.
@@ -70,7 +71,7 @@ fn pair_of(
 fn applications(alloc: Global, rows: &[Value]) -> anyhow::Result<Vec<Application<MemoryRecorder>>> {
     let mut apps = Vec::new(alloc);
     for row in rows {
-        apps.push(application(alloc, text_of(alloc, row, "app")?, row)?)?;
+        apps.push(application(alloc, row)?)?;
     }
     Ok(apps)
 }
@@ -83,8 +84,8 @@ fn names(alloc: Global, rows: &[Value]) -> anyhow::Result<Vec<Text>> {
     Ok(names)
 }
 
-// Drains the followers of these leaders.
-fn drain_all(
+// How a drain of the followers of these leaders ends.
+fn end(
     alloc: Global,
     sys: &System,
     apps: &mut [Application<MemoryRecorder>],
@@ -95,30 +96,38 @@ fn drain_all(
 {
     let pair = Some(pair_of(alloc, sys, apps)?);
     match drain(alloc, apps, sys, &pair, prompted, clock) {
-        Ok(()) => Ok(word(alloc, "drained")?),
+        Ok(()) => told::text(alloc, "drained"),
         Err(failed) => fault(alloc, &failed),
     }
 }
 
-/// How a drain ends, and what each application holds then.
-pub(crate) fn drained(
+// What the follower and the leader hold.
+fn held(
     alloc: Global,
-    base: &str,
-    case: &Value,
-    leaders: &Value,
+    mut apps: Vec<Application<MemoryRecorder>>,
+    end: Value,
 ) -> anyhow::Result<Value> {
+    let mut told = Members::new(alloc);
+    told.put("end", end);
+    let follower = apps.pop().context("no follower")?;
+    told.put_members("follower", left(alloc, follower));
+    let leader = apps.pop().context("no leader")?;
+    told.put_members("leader", left(alloc, leader));
+    told.end()
+}
+
+/// How a drain ends, and what each application holds then.
+pub(crate) fn answer(alloc: Global, base: &Value, case: &Value) -> anyhow::Result<Value> {
+    let prompted = names(alloc, given::items(case, "drain")?)?;
     let sys = system(alloc, base)?;
-    let mut apps = applications(alloc, items_of(case, "apps"))?;
-    let prompted = names(alloc, leaders.as_array().context("no leaders")?.as_slice())?;
-    let mut clock = ListClock::new(readings(alloc, case)?, Moment::nearest(0));
-    let end = drain_all(
+    let mut clock = clock(alloc, case)?;
+    let mut apps = applications(alloc, given::items(case, "apps")?)?;
+    let end = end(
         alloc,
         &sys,
         apps.as_mut_slice(),
         prompted.as_slice(),
         &mut clock,
     )?;
-    let follower = left(alloc, apps.pop().context("no follower")?)?;
-    let leader = left(alloc, apps.pop().context("no leader")?)?;
-    Ok(json!(in alloc; {"end": end, "follower": follower, "leader": leader})?)
+    held(alloc, apps, end)
 }

@@ -1,16 +1,18 @@
 //! Cases of whole runs over objects in memory, and of the numbers of their ends.
 
-use crate::members::{failing, items_of, number_or, readings};
-use crate::recordings::history_tree;
 use crate::stores::stores;
+use crate::systems::{clock, failing};
 use anyhow::Context;
 use es_io::{Documents, ListClock, MemoryDocument, MemorySink, MemorySource};
 use es_lines::End;
 use es_memory::MemoryStores;
-use es_model::{Bytes, Moment, Text};
+use es_model::{Bytes, Text};
 use es_recorder::Stores;
+use es_steps::recordings::history_told;
+use es_suite::given;
+use es_suite::told::Members;
 use es_top::{Status, evsys_single};
-use serde_json::{Value, json, put};
+use serde_json::Value;
 use std::alloc::Global;
 
 // The objects of a run.
@@ -24,16 +26,22 @@ struct Objects {
     clock: ListClock,
 }
 
+// Adds a text, and spaces behind it up to a length.
+fn add_long(text: &mut String, line: &str, length: u64) -> anyhow::Result<()> {
+    text.push_str(line)?;
+    for _ in line.len() as u64..length {
+        text.push(' ')?;
+    }
+    Ok(())
+}
+
 // Adds a line: an object, a text, or a text with the length up to which spaces follow it.
 fn add_line(alloc: Global, text: &mut String, line: &Value) -> anyhow::Result<()> {
     if let Some(line) = line.as_str() {
         text.push_str(line)?;
     } else if let Some(length) = line.get(1).and_then(Value::as_u64) {
-        let line = line.get(0).and_then(Value::as_str).context("no line")?;
-        text.push_str(line)?;
-        for _ in line.len() as u64..length {
-            text.push(' ')?;
-        }
+        let line = line.get(0).and_then(Value::as_str);
+        add_long(text, line.context("no line")?, length)?;
     } else {
         text.push_str(line.to_string(alloc)?.as_str())?;
     }
@@ -42,9 +50,9 @@ fn add_line(alloc: Global, text: &mut String, line: &Value) -> anyhow::Result<()
 }
 
 // The bytes of some lines.
-fn bytes_of(alloc: Global, lines: &Value) -> anyhow::Result<Bytes> {
+fn bytes_of(alloc: Global, lines: &[Value]) -> anyhow::Result<Bytes> {
     let mut text = String::new(alloc);
-    for line in lines.as_array().context("no lines")?.iter() {
+    for line in lines {
         add_line(alloc, &mut text, line)?;
     }
     Ok(Bytes::from_vec(text.into_bytes()))
@@ -52,31 +60,46 @@ fn bytes_of(alloc: Global, lines: &Value) -> anyhow::Result<Bytes> {
 
 fn words_of(alloc: Global, case: &Value) -> anyhow::Result<Vec<String>> {
     let mut words = Vec::new(alloc);
-    for word in items_of(case, "words") {
+    for word in given::items(case, "words")? {
         words.push(String::from_str(alloc, word.as_str().context("no word")?)?)?;
     }
     Ok(words)
 }
 
 // The base as the one document.
-fn document(alloc: Global, base: &str, case: &Value) -> anyhow::Result<MemoryDocument> {
-    let mut documents = Documents::new(alloc);
+fn documents(alloc: Global, base: &Value) -> anyhow::Result<Documents> {
+    let text = base.to_string(alloc)?;
     let name = Text::from_str(alloc, "system.json")?;
-    documents.push((name, Bytes::from_slice(alloc, base.as_bytes())?))?;
-    Ok(MemoryDocument::new(alloc, documents, failing(alloc, case, "system")?))
+    let mut documents = Documents::new(alloc);
+    documents.push((name, Bytes::from_vec(text.into_bytes())))?;
+    Ok(documents)
 }
 
-fn objects_of(alloc: Global, base: &str, case: &Value, lines: &Value) -> anyhow::Result<Objects> {
+fn system(alloc: Global, base: &Value, case: &Value) -> anyhow::Result<MemoryDocument> {
+    let failing = failing(alloc, case, "system")?;
+    let documents = documents(alloc, base)?;
+    Ok(MemoryDocument::new(alloc, documents, failing))
+}
+
+fn lines(alloc: Global, case: &Value) -> anyhow::Result<MemorySource> {
+    let failing = failing(alloc, case, "lines")?;
+    let bytes = bytes_of(alloc, given::items(case, "run")?)?;
+    Ok(MemorySource::new(bytes, failing))
+}
+
+fn out(alloc: Global, case: &Value) -> anyhow::Result<MemorySink> {
+    let failing = failing(alloc, case, "out")?;
+    let room = given::number_or(case, "room", 9999);
+    Ok(MemorySink::new(alloc, room, failing)?)
+}
+
+fn objects_of(alloc: Global, base: &Value, case: &Value) -> anyhow::Result<Objects> {
     let words = words_of(alloc, case)?;
-    let system = document(alloc, base, case)?;
-    let lines = MemorySource::new(bytes_of(alloc, lines)?, failing(alloc, case, "lines")?);
-    let out = MemorySink::new(
-        alloc,
-        number_or(case, "room", 9999),
-        failing(alloc, case, "out")?,
-    )?;
+    let system = system(alloc, base, case)?;
+    let lines = lines(alloc, case)?;
+    let out = out(alloc, case)?;
     let stores = stores(alloc, case)?;
-    let clock = ListClock::new(readings(alloc, case)?, Moment::nearest(0));
+    let clock = clock(alloc, case)?;
     Ok(Objects {
         words,
         system,
@@ -100,26 +123,40 @@ fn run(alloc: Global, objects: &mut Objects) -> Status {
     )
 }
 
-// What the stores hold of some applications, which are opened again.
-fn held(alloc: Global, stores: &mut MemoryStores, apps: &[Value]) -> anyhow::Result<Value> {
-    let mut held = json!(in alloc; {})?;
-    let members = held.as_object_mut().context("no object")?;
+// Tells what the stores hold of an application, which is opened again.
+fn put_held(
+    alloc: Global,
+    held: &mut Members,
+    stores: &mut MemoryStores,
+    app: &str,
+) -> anyhow::Result<()> {
+    let name = Text::from_str(alloc, app)?;
+    let recorder = stores.open(None, &name, 1000)?;
+    let (history, _) = recorder.into_parts();
+    held.put_items(app, history_told(alloc, history.as_slice()));
+    Ok(())
+}
+
+// What the stores hold of some applications.
+fn held(alloc: Global, stores: &mut MemoryStores, apps: &[Value]) -> anyhow::Result<Members> {
+    let mut held = Members::new(alloc);
     for app in apps {
-        let name = app.as_str().context("no name")?;
-        let recorder = stores.open(None, &Text::from_str(alloc, name)?, 1000)?;
-        let history = history_tree(alloc, &recorder.into_parts().0)?;
-        put(members, alloc, name, history)?;
+        put_held(alloc, &mut held, stores, app.as_str().context("no name")?)?;
     }
     Ok(held)
 }
 
 /// The status of a run over some lines, what is written, and what the stores hold of some applications.
-pub(crate) fn ran(alloc: Global, base: &str, case: &Value, lines: &Value) -> anyhow::Result<Value> {
-    let mut objects = objects_of(alloc, base, case, lines)?;
+pub(crate) fn answer(alloc: Global, base: &Value, case: &Value) -> anyhow::Result<Value> {
+    let mut objects = objects_of(alloc, base, case)?;
     let code = run(alloc, &mut objects).code();
-    let held = held(alloc, &mut objects.stores, items_of(case, "apps"))?;
-    let written = str::from_utf8(objects.out.bytes())?;
-    Ok(json!(in alloc; {"held": held, "status": code, "written": written})?)
+    let apps = given::items_if_any(case, "apps");
+    let held = held(alloc, &mut objects.stores, apps)?;
+    let mut told = Members::new(alloc);
+    told.put_members("held", held);
+    told.put("status", code);
+    told.put_bytes("written", objects.out.bytes());
+    told.end()
 }
 
 // The end of a run whose end line is of one word.
@@ -138,12 +175,10 @@ fn end_of(word: &str) -> Option<End> {
 
 /// The number of an end, or of a failing sink.
 pub(crate) fn code_of(case: &Value) -> anyhow::Result<Value> {
-    let word = case
-        .get("status")
-        .and_then(Value::as_str)
-        .context("no kind of case")?;
+    let word = given::text(case, "status")?;
     if word == "sink" {
         return Ok(Value::from(Status::Sink.code()));
     }
-    Ok(Value::from(Status::from(end_of(word).context("no such end")?).code()))
+    let end = end_of(word).context("no such end")?;
+    Ok(Value::from(Status::from(end).code()))
 }

@@ -87,3 +87,55 @@ pub(crate) fn is_notice(sys: &System, app: &Text, leader: &Text, given: &Notific
         && given.id < NUMBERS_END
         && given.event.originator_version < NUMBERS_END
 }
+
+// What the policy of an application decides on a leader's notification.
+fn judged(
+    alloc: Global,
+    sys: &System,
+    app: &Text,
+    recorder: &mut MemoryRecorder,
+    leader: &Text,
+    given: &Notification,
+    at: Moment,
+) -> anyhow::Result<Value>
+    requires { IsCheckedSystem sys.now }
+{
+    if !is_notice(sys, app, leader, given) {
+        return Err(anyhow::anyhow!("no application, or too great a number"));
+    }
+    match convert(alloc, sys, leader, given) {
+        Ok(event) => {
+            let verdict = judge_policy(alloc, sys, app, recorder, leader, given.id, &event, at);
+            told(alloc, &verdict)
+        }
+        Err(_) => Err(anyhow::anyhow!("a notification that has no meaning")),
+    }
+}
+
+// What the policy of an application decides on a leader's notification over a recorder.
+fn of_notice(
+    alloc: Global,
+    sys: &System,
+    recorder: &mut MemoryRecorder,
+    case: &Value,
+    tree: &Value,
+) -> anyhow::Result<Value>
+    requires { IsCheckedSystem sys.now }
+{
+    let app = given::owned(alloc, case, "app")?;
+    let leader = given::owned(alloc, case, "leader")?;
+    let given = notification(alloc, tree)?;
+    judged(alloc, sys, &app, recorder, &leader, &given, moment(case))
+}
+
+/// What the command of a line decides over the recordings of a case, or a policy on a leader's notification.
+pub(crate) fn answer(alloc: Global, base: &Value, case: &Value) -> anyhow::Result<Value> {
+    let sys = system(alloc, base)?;
+    let mut recorder = recorder(alloc, case)?;
+    if let Some(tree) = case.get("notice") {
+        return of_notice(alloc, &sys, &mut recorder, case, tree);
+    }
+    let line = given::member(case, "judge")?.to_string(alloc)?;
+    let line = line.as_str().as_bytes();
+    of_command(alloc, &sys, &mut recorder, line, moment(case))
+}

@@ -60,6 +60,12 @@ impl Members {
         self.put_value(name, Value::Array(items.items));
     }
 
+    /// Tells an object.
+    pub fn put_members(&mut self, name: &str, members: Members) {
+        self.is_lost |= members.is_lost;
+        self.put_value(name, Value::Object(members.members));
+    }
+
     /// The object.
     pub fn end(self) -> anyhow::Result<Value> {
         if self.is_lost {
