@@ -1,12 +1,14 @@
-//! Cases of lines: the canonical text of what one asks of the base, or its fault.
+//! Cases of lines: what one asks of the base, or its fault.
 
 use crate::documents;
+use es_domain::Command;
 use es_lines::{LineFault, Request, command_text, read_line};
-use es_model::Duplicate;
+use es_model::{Duplicate, Text};
 use es_suite::given;
 use es_suite::told::{self, Members};
 use serde_json::Value;
 use std::alloc::Global;
+use uuid::Uuid;
 
 // What a line is answered where it asks nothing.
 fn faulty(alloc: Global, fault: LineFault) -> anyhow::Result<Value> {
@@ -19,12 +21,49 @@ fn faulty(alloc: Global, fault: LineFault) -> anyhow::Result<Value> {
 }
 
 // The canonical text of a command.
-fn text(alloc: Global, request: &Request) -> anyhow::Result<Value> {
-    let Request::Do { app, command } = request;
+fn text(alloc: Global, app: &Text, command: &Command) -> anyhow::Result<Value> {
     let text = command_text(alloc, app, &command.copy()?)?;
     let mut told = Members::new(alloc);
     told.put_bytes("text", text.as_slice());
     told.end()
+}
+
+// An aggregate of an application, at a version if one is asked for.
+fn aggregate(alloc: Global, app: &Text, id: Uuid, version: Option<u64>) -> anyhow::Result<Value> {
+    let mut told = Members::new(alloc);
+    told.put("app", app.as_str());
+    told.put_id("get", id);
+    match version {
+        Some(version) => told.put("version", version),
+        None => told.put("version", Value::Null),
+    }
+    told.end()
+}
+
+// Something of an application that a text says.
+fn of_app(alloc: Global, app: &Text, name: &str, text: &Text) -> anyhow::Result<Value> {
+    let mut told = Members::new(alloc);
+    told.put("app", app.as_str());
+    told.put(name, text.as_str());
+    told.end()
+}
+
+fn word(alloc: Global, word: &str) -> anyhow::Result<Value> {
+    let mut told = Members::new(alloc);
+    told.put(word, true);
+    told.end()
+}
+
+// What a line asks, a command as its canonical text.
+fn asked(alloc: Global, request: &Request) -> anyhow::Result<Value> {
+    match request {
+        Request::Do { app, command } => text(alloc, app, command),
+        Request::Get { app, id, version } => aggregate(alloc, app, *id, *version),
+        Request::Log { app, section } => of_app(alloc, app, "log", section),
+        Request::Tracking { app, leader } => of_app(alloc, app, "tracking", leader),
+        Request::Sync => word(alloc, "sync"),
+        Request::Stop => word(alloc, "stop"),
+    }
 }
 
 /// The answer of a case.
@@ -32,7 +71,7 @@ pub(crate) fn answer(alloc: Global, base: &Value, case: &Value) -> anyhow::Resul
     let line = given::bytes(alloc, given::member(case, "line")?)?;
     let sys = documents::system(alloc, base)?;
     match read_line(alloc, &sys, line.as_slice()) {
-        Ok(request) => text(alloc, &request),
+        Ok(request) => asked(alloc, &request),
         Err(fault) => faulty(alloc, fault),
     }
 }

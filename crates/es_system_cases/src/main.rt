@@ -30,9 +30,9 @@ impl Suite for Cases {
             "declarations.jsonl" | "large.jsonl" => documents::answer(alloc, base, case),
             "expressions.jsonl" => expressions::answer(alloc, case),
             "folds.jsonl" => folds::answer(alloc, base, case),
-            "lines.jsonl" => lines::answer(alloc, base, case),
+            "lines.jsonl" | "questions.jsonl" => lines::answer(alloc, base, case),
             "mapping.jsonl" => mapping::answer(alloc, base, case),
-            "texts.jsonl" => texts::answer(alloc, case),
+            "replies.jsonl" | "texts.jsonl" => texts::answer(alloc, case),
             "values.jsonl" => values::answer(alloc, case),
             _ => Err(anyhow::anyhow!("no kind of cases")),
         }

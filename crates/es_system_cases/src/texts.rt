@@ -2,7 +2,7 @@
 
 use anyhow::Context;
 use es_lines::{End, Reply, end_text, fixed_end_line, reply_text};
-use es_model::{Code, Counts, Duplicate, Text};
+use es_model::{Code, Counts, Duplicate, Notification, Notifications, Text};
 use es_suite::{given, told};
 use serde_json::Value;
 use std::alloc::Global;
@@ -14,6 +14,10 @@ fn bare_reply(name: &str) -> Option<Reply> {
         "unknown" => Some(Reply::Unknown),
         "kind" => Some(Reply::Kind),
         "long" => Some(Reply::Long),
+        "not-found" => Some(Reply::NotFound),
+        "section" => Some(Reply::Section),
+        "sync" => Some(Reply::Sync),
+        "stop" => Some(Reply::Stop),
         _ => None,
     }
 }
@@ -33,6 +37,48 @@ fn unreadable_reply(alloc: Global, case: &Value) -> anyhow::Result<Reply> {
     Ok(Reply::Unreadable { app, id })
 }
 
+fn got(alloc: Global, case: &Value) -> anyhow::Result<Reply> {
+    let id = given::id(case, "id")?;
+    let version = given::number(case, "version")?;
+    let created_on = given::moment(case, "created_on")?;
+    let modified_on = given::moment(case, "modified_on")?;
+    let class = given::owned(alloc, case, "class")?;
+    let fields = given::fields(alloc, case, "fields")?;
+    Ok(Reply::Got {
+        id,
+        version,
+        class,
+        created_on,
+        modified_on,
+        fields,
+    })
+}
+
+// The first and the last id of a section, which null has none of.
+fn span(case: &Value, name: &str) -> anyhow::Result<Option<(u64, u64)>> {
+    match given::member(case, name)? {
+        Value::Null => Ok(None),
+        span => Ok(Some((given::number(span, "first")?, given::number(span, "last")?))),
+    }
+}
+
+fn notifications(alloc: Global, rows: &[Value]) -> anyhow::Result<Notifications> {
+    let mut items = Notifications::new(alloc);
+    for row in rows {
+        let id = given::number(row, "position")?;
+        let event = given::stored(alloc, row)?;
+        items.push(Notification { id, event })?;
+    }
+    Ok(items)
+}
+
+fn log(alloc: Global, case: &Value) -> anyhow::Result<Reply> {
+    let id = span(case, "id")?;
+    let next = span(case, "next")?;
+    let items = notifications(alloc, given::items(case, "items")?)?;
+    Ok(Reply::Log { id, items, next })
+}
+
 // A reply by its name, with its members.
 fn reply(alloc: Global, name: &str, case: &Value) -> anyhow::Result<Reply> {
     match name {
@@ -44,6 +90,11 @@ fn reply(alloc: Global, name: &str, case: &Value) -> anyhow::Result<Reply> {
             latest: given::number(case, "latest")?,
         }),
         "unreadable" => unreadable_reply(alloc, case),
+        "get" => got(alloc, case),
+        "log" => log(alloc, case),
+        "tracking" => Ok(Reply::Tracking {
+            position: given::number(case, "position")?,
+        }),
         _ => bare_reply(name).context("no such reply"),
     }
 }
