@@ -27,12 +27,12 @@ impl Suite for Cases {
         case: &Value,
     ) -> anyhow::Result<Value> {
         match file {
-            "applications.jsonl" => applications::answer(alloc, base, case),
+            "applications.jsonl" | "questions.jsonl" => applications::answer(alloc, base, case),
             "decisions.jsonl" | "verdicts.jsonl" => verdicts::answer(alloc, base, case),
             "drains.jsonl" => drains::answer(alloc, base, case),
             "formed.jsonl" => stores::formed(alloc, case),
             "fuses.jsonl" | "recorders.jsonl" => recorders::answer(alloc, case),
-            "faults.jsonl" | "runs.jsonl" => runs::answer(alloc, base, case),
+            "faults.jsonl" | "lines.jsonl" | "runs.jsonl" => runs::answer(alloc, base, case),
             "statuses.jsonl" => runs::code_of(case),
             "stores.jsonl" => stores::answer(alloc, case),
             _ => Err(anyhow::anyhow!("no kind of cases")),

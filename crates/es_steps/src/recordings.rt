@@ -25,17 +25,21 @@ pub fn number_at(row: &Value, place: usize) -> anyhow::Result<u64> {
     number.context("no number at a place")
 }
 
-// The text at a place of a list, or another one where the list ends before.
-fn text_at<'a>(row: &'a Value, place: usize, other: &'a str) -> &'a str {
-    row.get(place).and_then(Value::as_str).unwrap_or(other)
+// The state of an event, which is empty where none is given.
+fn state(alloc: Global, row: &Value) -> anyhow::Result<Bytes> {
+    match row.get(3) {
+        Some(state) => given::bytes(alloc, state),
+        None => Ok(Bytes::new(alloc)),
+    }
 }
 
 /// An event. Without a topic it is that of an opened account, and its state is empty.
 pub fn event(alloc: Global, row: &Value) -> anyhow::Result<StoredEvent> {
     let number = number_at(row, 0)?;
     let originator_version = number_at(row, 1)?;
-    let topic = Text::from_str(alloc, text_at(row, 2, "Account.Opened"))?;
-    let state = Bytes::from_slice(alloc, text_at(row, 3, "").as_bytes())?;
+    let topic = row.get(2).and_then(Value::as_str);
+    let topic = Text::from_str(alloc, topic.unwrap_or("Account.Opened"))?;
+    let state = state(alloc, row)?;
     Ok(StoredEvent {
         originator_id: originator(number),
         originator_version,
@@ -107,12 +111,25 @@ fn number_of(id: Uuid) -> u64 {
     (id.as_u128() & u128::from(u64::MAX)) as u64
 }
 
+// Tells a state as the text that it is, or as its hexadecimal digits.
+fn put_state(alloc: Global, told: &mut Items, state: &[u8]) {
+    if str::from_utf8(state).is_err()
+        && let Ok(digits) = hex::encode(alloc, state)
+    {
+        let mut hex = Members::new(alloc);
+        hex.put("hex", digits.as_str());
+        told.put_members(hex);
+    } else {
+        told.put_bytes(state);
+    }
+}
+
 fn event_told(alloc: Global, event: &StoredEvent) -> Items {
     let mut told = Items::new(alloc);
     told.put(number_of(event.originator_id));
     told.put(event.originator_version);
     told.put(event.topic.as_str());
-    told.put_bytes(event.state.as_slice());
+    put_state(alloc, &mut told, event.state.as_slice());
     told
 }
 
