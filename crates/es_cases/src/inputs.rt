@@ -1,6 +1,6 @@
 //! Cases of the lines of an input: those of a source that gives so many bytes a call, or that fails.
 
-use es_io::{Lines, LinesFault, MemorySource, Source, Step};
+use es_io::{Lines, LinesFault, MemorySource, Piece, Source, Step};
 use es_model::{Bytes, Failed};
 use es_suite::given;
 use es_suite::told::{self, Items, Members};
@@ -67,7 +67,8 @@ fn steps<S: Source>(
     limits: (u64, u64),
     count: u64,
 ) -> anyhow::Result<Value> {
-    let mut lines = Lines::new(alloc, source, limits.0, limits.1)?;
+    let piece = Piece::new(alloc)?;
+    let mut lines = Lines::new(alloc, piece, source, limits.0, limits.1);
     let mut steps = Items::new(alloc);
     for _ in 0..count {
         steps.put(told_of(alloc, lines.next())?);

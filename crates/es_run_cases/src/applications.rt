@@ -29,26 +29,18 @@ pub(crate) fn application(
     let name = given::owned(alloc, case, "app")?;
     let recorder = recorder(alloc, case)?;
     let turns = given::number_or(case, "turns", 9);
-    Ok(Application {
-        name,
-        recorder,
-        turns,
-        used: 0,
-    })
+    match Application::open(&name, recorder, turns) {
+        Ok(app) => Ok(app),
+        Err(_) => told::no_memory(),
+    }
 }
 
 /// How many notifications an application has recorded in this run, and all its recordings.
 pub(crate) fn left(alloc: Global, app: Application<MemoryRecorder>) -> Members {
-    let Application {
-        name: _,
-        recorder,
-        turns: _,
-        used,
-    } = app;
-    let (history, _) = recorder.into_parts();
     let mut told = Members::new(alloc);
+    told.put("used", app.used());
+    let (history, _) = app.close().into_parts();
     told.put_items("held", history_told(alloc, history.as_slice()));
-    told.put("used", used);
     told
 }
 
@@ -119,7 +111,7 @@ fn process(
 ) -> anyhow::Result<Value>
     requires { IsCheckedSystem sys.now }
 {
-    if is_notice(sys, &app.name, leader, given) {
+    if is_notice(sys, app.name(), leader, given) {
         told(alloc, &app.process(alloc, sys, leader, given, clock))
     } else {
         Err(anyhow::anyhow!("no application, or too great a number"))
@@ -158,7 +150,7 @@ fn reply(
 {
     let line = line.to_string(alloc)?;
     let request = request(alloc, sys, line.as_str())?;
-    if !may_ask(&app.name, &request) {
+    if !may_ask(app.name(), &request) {
         return Err(anyhow::anyhow!("another application"));
     }
     match app.answer(alloc, sys, &request, clock) {

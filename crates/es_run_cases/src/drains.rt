@@ -25,7 +25,7 @@ fn are_named(apps: &[Application<MemoryRecorder>], leader: &Text, follower: &Tex
 {
     match apps {
         [first, second] => {
-            first.name.as_str() == leader.as_str() && second.name.as_str() == follower.as_str()
+            first.name().as_str() == leader.as_str() && second.name().as_str() == follower.as_str()
         }
         _ => false,
     }
