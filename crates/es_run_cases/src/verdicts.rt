@@ -1,6 +1,6 @@
 //! Cases of decisions over a recorder: what a command decides, and the policy of an application.
 
-ghost use Rattle.std.specs.Prelude.{IfOk, IsTrue, is_some};
+ghost use Rattle.std.specs.Prelude.{◌<◌, ◌^◌, IsTrue, is_some};
 ghost use Rattle.es_model.specs.Declaration.{app_named};
 ghost use Rattle.es_expr.specs.Checked.{IsCheckedSystem};
 
@@ -79,8 +79,8 @@ pub(crate) fn notification(alloc: Global, tree: &Value) -> anyhow::Result<Notifi
 pub(crate) fn is_notice(sys: &System, app: &Text, leader: &Text, given: &Notification) -> bool
     ensures app { IsTrue result → IsTrue (is_some (app_named sys.now.apps app.now)) }
     ensures leader { IsTrue result → IsTrue (is_some (app_named sys.now.apps leader.now)) }
-    ensures id { IsTrue result → given.now.id < NUMBERS_END }
-    ensures version { IsTrue result → given.now.event.originator_version < NUMBERS_END }
+    ensures id { IsTrue result → given.now.id < 2 ^ 62 }
+    ensures version { IsTrue result → given.now.event.originator_version < 2 ^ 62 }
 {
     sys.app(leader.as_str()).is_some()
         && sys.app(app.as_str()).is_some()
