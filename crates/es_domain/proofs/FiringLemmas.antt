@@ -17,7 +17,6 @@ use Rattle.es_domain.specs.inner.Firing.{IsReady, IsKnown, IsEffect, IsNewEffect
 use Rattle.es_domain.specs.Fold.{begun, stepped, later_in, created_with, fields_at_first}
 use Rattle.es_domain.specs.Steps.{IsOfClass, IsOfTopic, HasItsFields, created_topic, first_event, next_event, with_pending, Triggers, TriggersOn}
 use Rattle.es_domain.specs.declared.aggregate.Aggregate.{Aggregate}
-use Rattle.es_domain.specs.declared.aggregate.ApplyFault.TheVariants.{Overflow}
 use Rattle.es_domain.specs.declared.aggregate.TriggerFault.{TriggerFault}
 use Rattle.es_domain.specs.declared.aggregate.TriggerFault.TheVariants as trigger
 use Rattle.es_domain.specs.declared.command.Command.{Command}

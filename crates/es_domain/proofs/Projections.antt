@@ -1,5 +1,5 @@
 -- What holds in a checked system.
-use Rattle.std.proofs.Common.{ℤ, ℕ, nat_le, suc, ◌+◌, ◌==◌, not, ◌&&◌, ◌||◌, if◌then◌else◌, codes, arith, ◌≡◌, ◌≤◌, length, IfSome, IsTrue, true, false, Bool, List, [], ◌∷◌, ◌++◌, Option, None, Some, refl, sym, ap, subst, ◌∙◌}
+use Rattle.std.proofs.Common.{ℤ, ℕ, nat_le, suc, ◌==◌, not, ◌&&◌, ◌||◌, if◌then◌else◌, codes, arith, ◌≡◌, ◌≤◌, length, IfSome, IsTrue, true, false, Bool, List, [], ◌∷◌, ◌++◌, Option, None, Some, refl, sym, ap, subst, ◌∙◌}
 use Rattle.std.proofs.lemmas.Bool.Decides.{nat_tests}
 use Rattle.std.specs.List.{list_all}
 use Rattle.std.specs.Prelude.{find}

@@ -21,7 +21,7 @@ use Rattle.es_domain.specs.declared.rules.Step.{Step}
 use Rattle.es_domain.specs.Steps.{collected}
 use Rattle.es_domain.specs.declared.aggregate.Aggregate.{Aggregate}
 use Rattle.es_domain.specs.declared.effect.Effect.{Effect}
-use Rattle.es_domain.specs.declared.effect.Effect.TheVariants.{Changed, Refused}
+use Rattle.es_domain.specs.declared.effect.Effect.TheVariants.{Changed}
 use Rattle.es_domain.specs.declared.rules.Step.TheVariants.{Goes, Stops}
 use Rattle.es_domain.proofs.OverlayLemmas.{overlaid_push, are_below_push, readings_before}
 use Rattle.es_domain.proofs.ValuesLemmas.{rest-is}

@@ -15,7 +15,7 @@ use Rattle.es_recorder.specs.declared.recorder.InsertFault.{InsertFault}
 use Rattle.es_recorder.specs.Insert.{too_many}
 use Rattle.es_process.specs.declared.faults.RunFault.{RunFault}
 use Rattle.es_process.specs.declared.faults.RunFault.TheVariants as fault
-use Rattle.es_lines.specs.declared.ends.End.TheVariants.{Full, Turns, Unreadable}
+use Rattle.es_lines.specs.declared.ends.End.TheVariants.{Full, Turns}
 use Rattle.es_lines.specs.declared.replies.Reply.TheVariants.{Accepted}
 use Rattle.es_process.specs.Answer.{Answer, says, accepts, ends, accept_unless, recording_of, Followed, adds, stops, add_unless, followed_of, followed, options}
 use Rattle.es_process.specs.Decision.{Decision, Logs, events}

@@ -24,7 +24,6 @@ use Rattle.es_lines.specs.declared.replies.Reply.TheVariants as reply
 use Rattle.es_process.specs.Answer.{Answer, says, accepts, ends, answer_of, differs, Followed, adds, stops}
 use Rattle.es_process.specs.Questions.{get_reply, log_reply, tracking_reply}
 use Rattle.es_process.specs.SystemRules.{decision_of}
-use Rattle.es_process.specs.Decision.{events}
 use Rattle.es_process.specs.Faults.{ByFault}
 
 -- these are all causes for which a recording that fits isn't added

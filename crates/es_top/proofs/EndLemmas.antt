@@ -1,11 +1,10 @@
 -- What the top call leaves, by how the run over the stores ended and by what was written after it.
-use Rattle.std.proofs.Common.{◌≡◌, ◌⊎◌, inl, inr, ℕ, false, List, [], ◌∷◌, length, nat_lt, Contains, if◌then◌else◌, Option, Some, None, Result, Ok, option_map, refl, sym, ap, ◌∙◌, subst, append-nil, arith}
+use Rattle.std.proofs.Common.{◌≡◌, ◌⊎◌, inl, inr, ℕ, false, List, [], ◌∷◌, length, nat_lt, Contains, if◌then◌else◌, Option, Some, None, Ok, option_map, refl, sym, ap, ◌∙◌, subst, append-nil, arith}
 use Rattle.std.specs.Io.KnownBytes.{Appends}
 use Rattle.std.proofs.lemmas.Bool.Decides.{nat_tests}
 use Rattle.es_model.specs.declared.declaration.Code.{Code}
 use Rattle.es_model.specs.declared.declaration.System.{System}
 use Rattle.es_model.specs.declared.event.Recording.{Recording}
-use Rattle.es_model.specs.declared.memory.Failed.{Failed}
 use Rattle.es_model.specs.History.{Histories, log}
 use Rattle.es_model.specs.Tracking.{tracked_in}
 use Rattle.es_model.specs.Values.{Name}

@@ -15,7 +15,7 @@ use Rattle.es_io.specs.Readings.{Readings}
 use Rattle.es_recorder.specs.Held.{put, SameElsewhere, ClosesTold, Closes}
 use Rattle.es_process.specs.declared.application.Application.{Application}
 use Rattle.es_process.specs.Answer.{Options}
-use Rattle.es_process.specs.Applications.{name_of, recorder_of}
+use Rattle.es_process.specs.Applications.{recorder_of}
 use Rattle.es_process.specs.SingleThread.{is_among}
 use Rattle.es_process.specs.Standing.{State, HoldsOne, Holds, HoldHistories, AreDistinct, IsSame, names_in, faults_at, count_of}
 use Rattle.es_process.proofs.AmongLemmas.{among-contains, contains-among, contains-last, is-same, same-name, put-cases, put-here, put-other, same-or-not}

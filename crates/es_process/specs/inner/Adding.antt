@@ -1,5 +1,5 @@
 -- What adding a recording leaves of a history, and what a policy decides.
-use Rattle.std.specs.Prelude.{◌≡◌, ◌⊎◌, ◌+◌, ℕ, List, [], ◌∷◌, ◌++◌, length, Option, Some, None, Result, Ok, Err, is_some, true}
+use Rattle.std.specs.Prelude.{◌≡◌, ◌⊎◌, ℕ, List, [], ◌∷◌, ◌++◌, length, Option, Some, None, Result, Ok, Err, is_some, true}
 use Rattle.es_model.specs.declared.event.StoredEvent.{StoredEvent}
 use Rattle.es_model.specs.declared.event.Recording.{Recording}
 use Rattle.es_model.specs.History.{log}

@@ -1,4 +1,4 @@
-use Rattle.std.proofs.Common.{inr, ◌≡◌, ◌+◌, ◌∙◌, ap, sym, subst, refl, Some, length, rules}
+use Rattle.std.proofs.Common.{◌≡◌, ◌+◌, ◌∙◌, ap, sym, subst, refl, Some, length, rules}
 use Rattle.es_io.specs.LinesLeft.{source_of}
 use Rattle.es_io.specs.Remains.{MayHold}
 use Rattle.es_io.proofs.RemainsLemmas.{some_held}

@@ -1,4 +1,4 @@
-use Rattle.std.proofs.Common.{rules, ◌≡◌, ◌∙◌, Some, None, ap, sym, refl}
+use Rattle.std.proofs.Common.{rules, Some}
 use Rattle.es_process.specs.Standing.{Holds, HoldHistories}
 use Rattle.es_process.proofs.HoldsLemmas.{held-histories}
 use Rattle.es_single.proofs.ServesLemmas.{word_answered, word_tells, app_tells}

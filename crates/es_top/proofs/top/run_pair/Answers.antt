@@ -1,4 +1,4 @@
-use Rattle.std.proofs.Common.{inr, ◌≡◌, ◌∙◌, ◌++◌, take, drop, length, map, List, [], append-nil, Option, Some, refl, sym, ap, subst}
+use Rattle.std.proofs.Common.{◌≡◌, ◌∙◌, ◌++◌, take, drop, length, map, List, [], append-nil, Option, Some, refl, sym, ap, subst}
 use Rattle.es_model.specs.declared.declaration.App.{App}
 use Rattle.es_model.specs.declared.snapshot.Snapshot.{Snapshot}
 use Rattle.es_model.specs.History.{Histories}
