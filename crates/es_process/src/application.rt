@@ -29,8 +29,8 @@ use es_io::Clock;
 use es_lines::{Reply, Request, command_text};
 use es_mapper::{MapFault, to_domain};
 use es_model::{
-    CallFault, Cause, DomainEvent, Duplicate, Moment, NoMemory, Notification, Recording, StoredEvent,
-    StoredEvents, System, Text,
+    CallFault, Cause, DomainEvent, Duplicate, Moment, NoMemory, Notification, Recording,
+    StoredEvent, StoredEvents, System, Text,
 };
 use es_recorder::{InsertFault, Inserted, ProcessRecorder};
 use es_repo::{Verdict, judge_command, judge_policy};

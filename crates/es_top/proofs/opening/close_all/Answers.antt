@@ -9,9 +9,9 @@ pub loop-app-preserved : goal.loop-app-preserved
 loop-app-preserved g c = record {
   front = front_before c.args.declared.now c.loop-app.apps.items c.pop.new.self.items c.in-Some.app c.loop-app.invariant.front (c.in-Some.ensures {u = tt}).items;
   closing = closing_more g.M.R.AggregateRecorder.history g.M.R.AggregateRecorder.snapshots g.M.R.AggregateRecorder.faults c.args.apps.items c.loop-app.apps.items c.pop.new.self.items c.in-Some.app (g.M.Stores.held c.args.stores.now) (g.M.Stores.held c.loop-app.stores) (g.M.Stores.snapshots c.args.stores.now) (g.M.Stores.snapshots c.loop-app.stores)
-    (g.M.Stores.out c.args.stores.now) (g.M.Stores.out c.loop-app.stores) (g.M.Stores.faults c.args.stores.now) (g.M.Stores.faults c.loop-app.stores) c.loop-app.invariant.closing (c.in-Some.ensures {u = tt}).items
-    (g.M.Stores.held c.close_application.new.stores) (g.M.Stores.snapshots c.close_application.new.stores) (g.M.Stores.out c.close_application.new.stores) (g.M.Stores.faults c.close_application.new.stores) c.close_application.ensures.closed c.close_application.ensures.closed_snapshots c.close_application.ensures.in_again
-    c.close_application.ensures.later c.close_application.ensures.risen;
+      (g.M.Stores.out c.args.stores.now) (g.M.Stores.out c.loop-app.stores) (g.M.Stores.faults c.args.stores.now) (g.M.Stores.faults c.loop-app.stores) c.loop-app.invariant.closing (c.in-Some.ensures {u = tt}).items
+      (g.M.Stores.held c.close_application.new.stores) (g.M.Stores.snapshots c.close_application.new.stores) (g.M.Stores.out c.close_application.new.stores) (g.M.Stores.faults c.close_application.new.stores) c.close_application.ensures.closed c.close_application.ensures.closed_snapshots c.close_application.ensures.in_again
+      c.close_application.ensures.later c.close_application.ensures.risen;
 }
 
 pub returns-clause-closed : goal.returns-clause-closed
