@@ -60,12 +60,15 @@ fn select(recorder: &mut MemoryRecorder, held: u64) -> anyhow::Result<u64> {
     Ok(found)
 }
 
-/// Fills a recorder up to a number, and times appends and selections there.
-pub(crate) fn measure(
-    rt: &(impl Clock + Eprint + Print),
-    alloc: Global,
-    upto: u64,
-) -> anyhow::Result<()> {
+// How many are appended and selected in a second, and what was found.
+struct Timed {
+    appends: u128,
+    selections: u128,
+    found: u64,
+}
+
+// Fills a recorder up to a number, and times appends and selections there.
+fn time(rt: &impl Clock, alloc: Global, upto: u64) -> anyhow::Result<Timed> {
     let mut recorder = MemoryRecorder::new(alloc, (1 << 62) - 1);
     append(alloc, &mut recorder, 0, upto)?;
     let before = Instant::now(rt)?;
@@ -74,6 +77,24 @@ pub(crate) fn measure(
     let before = Instant::now(rt)?;
     let found = select(&mut recorder, upto)?;
     let selections = rate(2 * TIMED, before.elapsed(rt)?);
+    Ok(Timed {
+        appends,
+        selections,
+        found,
+    })
+}
+
+/// Fills a recorder up to a number, times appends and selections there, and tells them.
+pub(crate) fn measure(
+    rt: &(impl Clock + Eprint + Print),
+    alloc: Global,
+    upto: u64,
+) -> anyhow::Result<()> {
+    let Timed {
+        appends,
+        selections,
+        found,
+    } = time(rt, alloc, upto)?;
     println!(rt; "{upto} recordings: {TIMED} appended, {found} selected")?;
     eprintln!(rt;
         "{:>12} {upto:>9} {appends:>12} {selections:>14}",
