@@ -1,11 +1,14 @@
 pub mod BackLemmas
+pub mod DueLemmas
 pub mod FoldingLemmas
 pub mod FollowsLemmas
 pub mod GetsLemmas
 pub mod JudgeLemmas
 pub mod LogLemmas
+pub mod NumbersLemmas
 pub mod PolicyLemmas
 pub mod ReadingLemmas
+pub mod SnapshotLemmas
 pub mod StandingLemmas
 pub mod StoredLemmas
 pub mod ToldLemmas

@@ -1,3 +1,4 @@
 pub mod Reader
 pub mod Repository
+pub mod Snapshots
 pub mod Stored
