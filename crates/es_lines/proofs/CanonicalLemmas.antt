@@ -26,9 +26,9 @@ use Rattle.es_transcode.proofs.CanonicalLemmas.{only-record_tree}
 use Rattle.es_transcode.proofs.DecodedLemmas.{tree-of-record}
 use Rattle.es_domain.specs.declared.command.Command.{Command}
 use Rattle.es_lines.specs.CommandText.{command_tree, command_text, is_absent_or_expectable}
-use Rattle.es_lines.specs.Requests.{asks, and_then, has_only, text_in, is_expectable, number_if, number_in, optional, text_of, names, id_of, args, target, command, is_true, aggregate, app_and, has, do_line, get_line, log_line, tracking_line, word_line, spelled, request_in, IsDeclared}
+use Rattle.es_lines.specs.Requests.{asks, and_then, has_only, text_in, is_expectable, number_if, number_in, optional, text_of, names, id_of, args, target, command, is_true, aggregate, app_and, has, do_line, get_line, log_line, tracking_line, snapshot_line, word_line, spelled, request_in, IsDeclared}
 use Rattle.es_lines.specs.declared.request.Request.{Request}
-use Rattle.es_lines.specs.declared.request.Request.TheVariants.{Do, Get, Log, Tracking, Sync, Stop}
+use Rattle.es_lines.specs.declared.request.Request.TheVariants.{Do, Get, Log, Tracking, Snapshot, Sync, Stop}
 use Rattle.es_lines.proofs.IdLemmas.{parsed-again, utf8-simple}
 use Rattle.es_lines.proofs.PointLemmas.{halves-joined}
 use Rattle.es_lines.proofs.RequestLemmas.{asked-of}
@@ -215,6 +215,13 @@ no-tracking d app c is =
     let a = taken (app_and (codes "tracking") d) _ (Do app c) m.1 in
     absurd (cc a.2)
 
+no-snapshot : (d : Data) (app : Name) (c : Command) → ¬ (snapshot_line d ≡ Some (Do app c))
+no-snapshot d app c is =
+    let m = chosen (has_only (codes "app" ∷ codes "snapshot" ∷ []) d) (and_then (text_of (codes "app") d) (λ app. and_then (id_of (codes "snapshot") d) (λ i. Some (Snapshot app i)))) (Do app c) is in
+    let a = taken (text_of (codes "app") d) _ (Do app c) m.1 in
+    let b = taken (id_of (codes "snapshot") d) _ (Do app c) a.2 in
+    absurd (cc b.2)
+
 no-word : (word : Name) (r : Request) (d : Data) (app : Name) (c : Command) → ¬ (r ≡ Do app c) → ¬ (word_line word r d ≡ Some (Do app c))
 no-word word r d app c other is =
     let m = chosen (has_only (word ∷ []) d) (if is_true (get word d) then Some r else None) (Do app c) is in
@@ -227,8 +234,9 @@ of-do d app c is =
     (either (has (codes "get") d) (get_line d) _ (Do app c) (no-get d app c)
     (either (has (codes "log") d) (log_line d) _ (Do app c) (no-log d app c)
     (either (has (codes "tracking") d) (tracking_line d) _ (Do app c) (no-tracking d app c)
+    (either (has (codes "snapshot") d) (snapshot_line d) _ (Do app c) (no-snapshot d app c)
     (either (has (codes "sync") d) (word_line (codes "sync") Sync d) _ (Do app c) (no-word (codes "sync") Sync d app c (λ e. absurd (cc e)))
-    (no-word (codes "stop") Stop d app c (λ e. absurd (cc e))))))) is
+    (no-word (codes "stop") Stop d app c (λ e. absurd (cc e)))))))) is
 
 -- ---- its text
 

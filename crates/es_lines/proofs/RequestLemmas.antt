@@ -64,6 +64,7 @@ asked-one sys (request.Get app id version) r is = app-asks sys app (request.Get 
 asked-one sys (request.Log app section) r is = app-asks sys app (request.Log app section) r is
 asked-one sys (request.Tracking app leader) r is =
     app-asks sys app (request.Tracking app leader) r (asked-if (leads sys leader app) (of_app sys app (request.Tracking app leader)) fault.Unknown r is).1
+asked-one sys (request.Snapshot app id) r is = app-asks sys app (request.Snapshot app id) r is
 asked-one sys request.Sync r is = (tt, ap (request_or r) is)
 asked-one sys request.Stop r is = (tt, ap (request_or r) is)
 

@@ -19,7 +19,7 @@ use Rattle.es_domain.specs.declared.command.Command.{Command}
 use Rattle.es_lines.specs.declared.fault.LineFault.{LineFault}
 use Rattle.es_lines.specs.declared.fault.LineFault.TheVariants.{Syntax, Unknown, Kind, NoMemory}
 use Rattle.es_lines.specs.declared.request.Request.{Request}
-use Rattle.es_lines.specs.declared.request.Request.TheVariants.{Do, Get, Log, Tracking, Sync, Stop}
+use Rattle.es_lines.specs.declared.request.Request.TheVariants.{Do, Get, Log, Tracking, Snapshot, Sync, Stop}
 
 -- what a line asks, or nothing, for this reason
 pub data Asked : Type 0 where
@@ -124,6 +124,11 @@ log_line d = of_members (codes "app" ∷ codes "log" ∷ []) d (and_then (app_an
 abbrev pub tracking_line : Data → Option Request
 tracking_line d = of_members (codes "app" ∷ codes "tracking" ∷ []) d (and_then (app_and (codes "tracking") d) (λ p. Some (Tracking p.0 p.1)))
 
+abbrev pub snapshot_line : Data → Option Request
+snapshot_line d =
+    of_members (codes "app" ∷ codes "snapshot" ∷ []) d
+    (and_then (text_of (codes "app") d) (λ app. and_then (id_of (codes "snapshot") d) (λ i. Some (Snapshot app i))))
+
 -- a request of one word, whose member is true
 abbrev pub word_line : Name → Request → Data → Option Request
 word_line word r d = of_members (word ∷ []) d (if is_true (get word d) then Some r else None)
@@ -138,8 +143,19 @@ spelled d =
     if has (codes "get") d then get_line d else
     if has (codes "log") d then log_line d else
     if has (codes "tracking") d then tracking_line d else
+    if has (codes "snapshot") d then snapshot_line d else
     if has (codes "sync") d then word_line (codes "sync") Sync d else
     word_line (codes "stop") Stop d
+
+-- the application of which something is asked
+abbrev pub app_asked : Request → Option Name
+app_asked (Do app c) = Some app
+app_asked (Get app id version) = Some app
+app_asked (Log app section) = Some app
+app_asked (Tracking app leader) = Some app
+app_asked (Snapshot app id) = Some app
+app_asked Sync = None
+app_asked Stop = None
 
 -- ---- what a system declares of it
 
@@ -167,6 +183,7 @@ asked_of sys (Some (Do app c)) = fitting sys app c
 asked_of sys (Some (Get app id version)) = of_app sys app (Get app id version)
 asked_of sys (Some (Log app section)) = of_app sys app (Log app section)
 asked_of sys (Some (Tracking app leader)) = if leads sys leader app then of_app sys app (Tracking app leader) else refused Unknown
+asked_of sys (Some (Snapshot app id)) = of_app sys app (Snapshot app id)
 asked_of sys (Some Sync) = asks Sync
 asked_of sys (Some Stop) = asks Stop
 
@@ -196,5 +213,6 @@ IsOfSystem sys (Do app c) = IsDeclared sys app c
 IsOfSystem sys (Get app id version) = IsApp sys app
 IsOfSystem sys (Log app section) = IsApp sys app
 IsOfSystem sys (Tracking app leader) = IsApp sys app
+IsOfSystem sys (Snapshot app id) = IsApp sys app
 IsOfSystem sys Sync = Unit {0}
 IsOfSystem sys Stop = Unit {0}

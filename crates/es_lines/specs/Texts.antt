@@ -91,10 +91,12 @@ reply_tree (reply.Log id items next) =
     (text (codes "ok") (codes "log")
     no_members))))
 reply_tree (reply.Tracking position) = object (text (codes "ok") (codes "tracking") (count (codes "position") position no_members))
+reply_tree (reply.Snapshot version) = object (text (codes "ok") (codes "snapshot") (count (codes "version") version no_members))
 reply_tree reply.Sync = lone (codes "ok") (codes "sync")
 reply_tree reply.Stop = lone (codes "ok") (codes "stop")
 reply_tree reply.NotFound = lone (codes "error") (codes "not-found")
 reply_tree reply.Section = lone (codes "error") (codes "section")
+reply_tree (reply.Unchanged version) = object (text (codes "error") (codes "unchanged") (count (codes "version") version no_members))
 reply_tree (reply.Unreadable app id) = object (text (codes "app") app (text (codes "error") (codes "unreadable") (count (codes "id") id no_members)))
 
 abbrev pub reply_text : Reply → List ℕ

@@ -241,6 +241,24 @@ fn tracking_line(alloc: Global, tree: &Value) -> Result<Request, LineFault>
     })
 }
 
+fn snapshot_line(alloc: Global, tree: &Value) -> Result<Request, LineFault>
+    ensures { Reads (spec.snapshot_line (view tree.now)) result }
+{
+    if !has_only(tree, &["app", "snapshot"]) {
+        return Err(LineFault::Syntax);
+    }
+    let Some(app) = text_in(tree, "app") else {
+        return Err(LineFault::Syntax);
+    };
+    let Some(id) = id_in(tree, "snapshot") else {
+        return Err(LineFault::Syntax);
+    };
+    Ok(Request::Snapshot {
+        app: Text::from_str(alloc, app)?,
+        id,
+    })
+}
+
 fn is_true(tree: Option<&Value>) -> bool
     ensures { result ≡ spec.is_true (option_map (λ v. view v.now) tree.entry) }
 {
@@ -278,6 +296,8 @@ fn spelled(alloc: Global, tree: &Value) -> Result<Request, LineFault>
         log_line(alloc, tree)
     } else if has(tree, "tracking") {
         tracking_line(alloc, tree)
+    } else if has(tree, "snapshot") {
+        snapshot_line(alloc, tree)
     } else if has(tree, "sync") {
         word_line(tree, "sync", Request::Sync)
     } else {
@@ -407,6 +427,7 @@ fn test(sys: &System, request: &Request) -> Result<(), LineFault>
         Request::Get { app, .. } => test_app(sys, app),
         Request::Log { app, .. } => test_app(sys, app),
         Request::Tracking { app, leader } => test_leader(sys, app, leader),
+        Request::Snapshot { app, .. } => test_app(sys, app),
         Request::Sync => Ok(()),
         Request::Stop => Ok(()),
     }

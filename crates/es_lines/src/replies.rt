@@ -43,6 +43,10 @@ pub enum Reply {
     Tracking {
         position: u64,
     },
+    /// A snapshot of the aggregate at this version was taken.
+    Snapshot {
+        version: u64,
+    },
     /// The followers have reached their leaders.
     Sync,
     /// No further line is answered.
@@ -51,6 +55,10 @@ pub enum Reply {
     NotFound,
     /// The text says no section.
     Section,
+    /// A snapshot of the aggregate at its latest version, and of its class's version, is there.
+    Unchanged {
+        version: u64,
+    },
     /// The line is no request.
     Syntax,
     /// The application isn't declared, has no such command, or isn't led by such a leader.
@@ -100,10 +108,12 @@ pub fn reply_text(alloc: Global, reply: &Reply) -> Result<Bytes, NoMemory>
         ),
         Reply::Log { id, items, next } => log_text(alloc, *id, items, *next),
         Reply::Tracking { position } => tracking_text(alloc, *position),
+        Reply::Snapshot { version } => snapshot_text(alloc, *version),
         Reply::Sync => lone_text(alloc, "ok", "sync"),
         Reply::Stop => lone_text(alloc, "ok", "stop"),
         Reply::NotFound => lone_text(alloc, "error", "not-found"),
         Reply::Section => lone_text(alloc, "error", "section"),
+        Reply::Unchanged { version } => unchanged_text(alloc, *version),
         Reply::Syntax => lone_text(alloc, "error", "syntax"),
         Reply::Unknown => lone_text(alloc, "error", "unknown"),
         Reply::Kind => lone_text(alloc, "error", "kind"),
@@ -154,6 +164,24 @@ fn tracking_text(alloc: Global, position: u64) -> Result<Bytes, NoMemory>
     let mut out = begun(alloc)?;
     put_text(&mut out, "ok", "tracking")?;
     put_number(&mut out, "position", position)?;
+    ended(out)
+}
+
+fn snapshot_text(alloc: Global, version: u64) -> Result<Bytes, NoMemory>
+    ensures { IfOk result (λ text. text ≡ spec.reply_text (Reply.Snapshot version)) }
+{
+    let mut out = begun(alloc)?;
+    put_text(&mut out, "ok", "snapshot")?;
+    put_number(&mut out, "version", version)?;
+    ended(out)
+}
+
+fn unchanged_text(alloc: Global, version: u64) -> Result<Bytes, NoMemory>
+    ensures { IfOk result (λ text. text ≡ spec.reply_text (Reply.Unchanged version)) }
+{
+    let mut out = begun(alloc)?;
+    put_text(&mut out, "error", "unchanged")?;
+    put_number(&mut out, "version", version)?;
     ended(out)
 }
 

@@ -1,26 +1,20 @@
 -- The rules of a declared system are lawful.
-use Rattle.std.proofs.Common.{◌≡◌, inl, inr, ℕ, zero, suc, Bool, true, false, IsTrue, List, [], ◌∷◌, map, find, Contains, Option, Some, is_some, option_map, if◌then◌else◌, refl, sym, ap, ◌∙◌, subst}
+use Rattle.std.proofs.Common.{◌≡◌, inl, inr, ℕ, zero, suc, Bool, true, false, List, [], ◌∷◌, map, find, Contains, Some, option_map, if◌then◌else◌, refl, sym, ap, ◌∙◌, subst}
 use Rattle.std.specs.Str.{bytes_eq}
 use Rattle.es_model.specs.Rising.{with_item, item_of}
 use Rattle.es_model.proofs.ItemLemmas.{item-with, item-with_other}
-use Rattle.es_model.specs.Values.{Name, Id}
-use Rattle.es_model.specs.Declaration.{app_named}
-use Rattle.es_model.specs.declared.declaration.App.{App}
+use Rattle.es_model.specs.Values.{Name}
 use Rattle.es_model.specs.declared.declaration.System.{System}
-use Rattle.es_model.specs.declared.event.Recording.{Recording}
 use Rattle.es_expr.specs.Checked.{IsCheckedSystem}
 use Rattle.es_decl.specs.Distinct.{AreDistinct as IsListDistinct}
 use Rattle.es_decl.proofs.CheckedSystemLemmas.{pair-declared, names-distinct}
-use Rattle.es_domain.specs.declared.command.Command.{Command as CommandOf}
-use Rattle.es_lines.specs.CommandText.{command_text}
-use Rattle.es_lines.specs.Requests.{Asked, asks, refused as not_asked, request_in, IsApp}
-use Rattle.es_lines.specs.declared.replies.Reply.{Reply}
-use Rattle.es_lines.specs.declared.request.Request.TheVariants.{Do, Get, Log, Tracking, Sync, Stop}
+use Rattle.es_lines.specs.Requests.{asks, request_in, app_asked}
+use Rattle.es_lines.specs.declared.request.Request.{Request}
+use Rattle.es_lines.specs.declared.request.Request.TheVariants.{Do, Get, Log, Tracking, Snapshot, Sync, Stop}
 use Rattle.es_lines.proofs.CanonicalLemmas as canon
 use Rattle.es_lines.proofs.RequestLemmas as request
-use Rattle.es_process.specs.SystemRules.{rules_of, names_of, app_names, in_order, decide_entry, request_of}
+use Rattle.es_process.specs.SystemRules.{rules_of, names_of, app_names, in_order, decide_entry}
 use Rattle.es_process.specs.inner.Lawful.{IsLocal, IsLawful}
-use Rattle.es_process.specs.Requests.{command, question}
 use Rattle.es_process.specs.Standing.{AreDistinct}
 use Rattle.es_process.proofs.HoldsLemmas.{contains-at}
 use Rattle.es_process.proofs.AmongLemmas.{contains-here, contains-later, contains-cases, contains-none, same-name, is-same}
@@ -50,34 +44,15 @@ entry-in-order f (m ∷ ms) n there = by (entry-in-order f ms n) (bytes_eq n m) 
 pub names-contain : (sys : System) (n : Name) → Contains (app_names sys) n → Contains (names_of sys) n
 names-contain sys n there = named-entry (in_order (λ m. tt {0}) (app_names sys)) n (tt {0}) (entry-in-order (λ m. tt {0}) (app_names sys) n there)
 
--- what a line asks, where it asks for a command
-asked-command : (sys : System) (asked : Asked) (app : Name) (text : List ℕ) (id : Id) (expect : Option ℕ) → request_of sys asked ≡ command app text id expect
-    → (c : CommandOf) × (asked ≡ asks (Do app c)) × (text ≡ command_text app c) × (id ≡ c.id) × (expect ≡ c.expect)
-asked-command sys (asks (Do other c)) app text id expect is = (c, cc is, cc is, cc is, cc is)
-asked-command sys (asks (Get other i version)) app text id expect is = absurd (cc is)
-asked-command sys (asks (Log other section)) app text id expect is = absurd (cc is)
-asked-command sys (asks (Tracking other leader)) app text id expect is = absurd (cc is)
-asked-command sys (asks Sync) app text id expect is = absurd (cc is)
-asked-command sys (asks Stop) app text id expect is = absurd (cc is)
-asked-command sys (not_asked fault) app text id expect is = absurd (cc is)
-
--- the application of a question is declared
-asked-question : (sys : System) (line : List ℕ) (asked : Asked) (app : Name) (reply : List Recording → Reply) → request_in sys line ≡ asked → request_of sys asked ≡ question app reply → IsApp sys app
-asked-question sys line (asks (Get other i version)) app reply is so = let named : other ≡ app = cc so in subst (IsApp sys) named (request.of-system sys line (Get other i version) is)
-asked-question sys line (asks (Log other section)) app reply is so = let named : other ≡ app = cc so in subst (IsApp sys) named (request.of-system sys line (Log other section) is)
-asked-question sys line (asks (Tracking other leader)) app reply is so = let named : other ≡ app = cc so in subst (IsApp sys) named (request.of-system sys line (Tracking other leader) is)
-asked-question sys line (asks (Do other c)) app reply is so = absurd (cc so)
-asked-question sys line (asks Sync) app reply is so = absurd (cc so)
-asked-question sys line (asks Stop) app reply is so = absurd (cc so)
-asked-question sys line (not_asked fault) app reply is so = absurd (cc so)
-
-named-app : (apps : List App) (n : Name) → IsTrue (is_some (app_named apps n)) → Contains (map (λ (a : App). a.name) apps) n
-named-app [] n is = absurd (cc is)
-named-app (a ∷ apps) n is = by (named-app apps n) (bytes_eq a.name n) refl is
-  where
-    by : (IsTrue (is_some (app_named apps n)) → Contains (map (λ (a : App). a.name) apps) n) → (v : Bool) → bytes_eq a.name n ≡ v → IsTrue (is_some (if v then Some a else app_named apps n)) → Contains (map (λ (a : App). a.name) (a ∷ apps)) n
-    by behind true same found = subst (Contains (map (λ (x : App). x.name) (a ∷ apps))) (same-name a.name n same) (contains-here a.name (map (λ (x : App). x.name) apps))
-    by behind false other found = contains-later a.name (map (λ (x : App). x.name) apps) n (behind found)
+-- the application of which a line asks something is declared
+asked-app : (sys : System) (line : List ℕ) (r : Request) (app : Name) → request_in sys line ≡ asks r → app_asked r ≡ Some app → Contains (app_names sys) app
+asked-app sys line (Do other c) app is about = let same : other ≡ app = cc about in subst (Contains (app_names sys)) same (request.named sys line other c is)
+asked-app sys line (Get other i version) app is about = let same : other ≡ app = cc about in subst (Contains (app_names sys)) same (request.named-app sys other (request.of-system sys line (Get other i version) is))
+asked-app sys line (Log other section) app is about = let same : other ≡ app = cc about in subst (Contains (app_names sys)) same (request.named-app sys other (request.of-system sys line (Log other section) is))
+asked-app sys line (Tracking other leader) app is about = let same : other ≡ app = cc about in subst (Contains (app_names sys)) same (request.named-app sys other (request.of-system sys line (Tracking other leader) is))
+asked-app sys line (Snapshot other i) app is about = let same : other ≡ app = cc about in subst (Contains (app_names sys)) same (request.named-app sys other (request.of-system sys line (Snapshot other i) is))
+asked-app sys line Sync app is about = absurd (cc about)
+asked-app sys line Stop app is about = absurd (cc about)
 
 module _ (sys : System) where
   pub declared-local : IsLocal (rules_of sys)
@@ -86,23 +61,11 @@ module _ (sys : System) where
     notifications = λ app before logs others leader id at same. ap (decide_entry sys app before leader id at) same;
   }
 
-  -- the text that a cause keeps asks the same
-  declared-canonical : (line asked : List ℕ) (app : Name) (id : Id) (expect : Option ℕ) → request_of sys (request_in sys line) ≡ command app asked id expect → request_of sys (request_in sys asked) ≡ command app asked id expect
-  declared-canonical line asked app id expect is =
-      let a = asked-command sys (request_in sys line) app asked id expect is in
-      ap (λ t. request_of sys (request_in sys t)) a.2 ∙ ap (request_of sys) (canon.canonical sys line app a.0 a.1) ∙ (λ i. command app (sym a.2 i) (sym a.3 i) (sym a.4 i))
-
-  declared-named : (line asked : List ℕ) (app : Name) (id : Id) (expect : Option ℕ) → request_of sys (request_in sys line) ≡ command app asked id expect → Contains (names_of sys) app
-  declared-named line asked app id expect is =
-      let a = asked-command sys (request_in sys line) app asked id expect is in
-      names-contain sys app (request.named sys line app a.0 a.1)
-
   pub declared-lawful : IsCheckedSystem sys → IsLawful (rules_of sys)
   declared-lawful checked = record {
     local = declared-local;
-    canonical = declared-canonical;
-    named = declared-named;
-    questioned = λ line app reply is. names-contain sys app (named-app sys.apps app (asked-question sys line (request_in sys line) app reply refl is));
+    canonical = canon.canonical sys;
+    named = λ line r app is about. names-contain sys app (asked-app sys line r app is about);
     paired = λ p there. let d = pair-declared sys p checked there in (names-contain sys p.0 d.0, names-contain sys p.1 d.1);
   }
 

@@ -1,23 +1,42 @@
 -- What applications hold after one of them changed.
-use Rattle.std.proofs.Common.{◌≡◌, ◌≤◌, ℕ, zero, suc, true, false, List, [], ◌∷◌, Option, Some, None, Contains, slice_get, slice_set, option_map, refl, sym, ap, ◌∙◌, subst, arith}
+use Rattle.std.proofs.Common.{◌≡◌, ◌≤◌, ℕ, zero, suc, true, false, List, [], ◌∷◌, ◌++◌, Option, Some, None, Contains, slice_get, slice_set, option_map, refl, sym, ap, ◌∙◌, subst, arith}
 use Rattle.std.proofs.lemmas.Option.{slice_get-map}
 use Rattle.es_model.specs.Causes.{Rose}
-use Rattle.es_model.specs.History.{Histories}
 use Rattle.es_model.specs.Values.{Name}
 use Rattle.es_model.specs.declared.event.Recording.{Recording}
 use Rattle.es_model.specs.declared.snapshot.Snapshot.{Snapshot}
+use Rattle.es_model.specs.Snapshots.{put_snapshot}
 use Rattle.es_io.specs.Readings.{Readings}
 use Rattle.es_process.specs.declared.application.Application.{Application}
-use Rattle.es_process.specs.Answer.{Options}
+use Rattle.es_process.specs.Answer.{Options, put_each}
+use Rattle.es_process.specs.Contents.{Contents, added, snapped}
+use Rattle.es_process.specs.Leaves.{Tells}
 use Rattle.es_process.specs.SingleThread.{is_among}
-use Rattle.es_process.specs.Standing.{State, HoldsOne, Holds, HoldHistories, AreElsewhere, AreDistinct, Stays, IsSame, AllStay, names_in, snapshots_in, faults_at, count_of, Later, SomeRose}
-use Rattle.es_process.proofs.AmongLemmas.{contains-here, contains-later, contains-among}
+use Rattle.es_process.specs.Standing.{State, HoldsOne, Holds, TellsContents, HoldContents, AreElsewhere, IsKeptElsewhere, AreDistinct, Stays, IsSame, AllStay, names_in, faults_at, count_of, Later, SomeRose}
+use Rattle.es_process.proofs.AmongLemmas.{contains-here, contains-later, contains-among, put-other}
 use Rattle.es_process.proofs.SetLemmas.{get-same, get-cases, map-set}
 
 pub contains-at : {A : Type 0} (xs : List A) (i : ℕ) (x : A) → slice_get xs i ≡ Some x → Contains xs x
 contains-at [] i x at = absurd (cc at)
 contains-at (y ∷ ys) zero x at = let is : y ≡ x = cc in subst (Contains (y ∷ ys)) is (contains-here y ys)
 contains-at (y ∷ ys) (suc i) x at = contains-later y ys x (contains-at ys i x at)
+
+-- two contents are the same but at one application
+pub record AreAlikeBut (name : Name) (c d : Contents) : Type 0 where
+  pub histories : (n : Name) → (n ≡ name → ⊥) → d.histories n ≡ c.histories n
+  pub snapshots : (n : Name) → (n ≡ name → ⊥) → d.snapshots n ≡ c.snapshots n
+
+pub alike-same : (name : Name) (c : Contents) → AreAlikeBut name c c
+alike-same name c = record { histories = λ n other. refl; snapshots = λ n other. refl }
+
+pub alike-added : (name : Name) (c : Contents) (r : Recording) (ss : List Snapshot) → AreAlikeBut name c (added c name r ss)
+alike-added name c r ss = record {
+  histories = put-other c.histories name (c.histories name ++ r ∷ []);
+  snapshots = put-other c.snapshots name (put_each (c.snapshots name) ss);
+}
+
+pub alike-snapped : (name : Name) (c : Contents) (s : Snapshot) → AreAlikeBut name c (snapped c name s)
+alike-snapped name c s = record { histories = λ n other. refl; snapshots = put-other c.snapshots name (put_snapshot (c.snapshots name) s) }
 
 module _ {R : Type 0} where
   -- the name of an application at its place
@@ -46,58 +65,69 @@ module _ {R : Type 0} where
     apart : (j : ℕ) (c : Application R) → (j ≡ i → ⊥) → slice_get apps j ≡ Some c → c.name ≡ a.name → ⊥
     apart j c other there is = other (distinct j i a.name (name-at apps j c there ∙ ap Some is) (name-at apps i a at))
 
-    elsewhere-kept : (base : Histories) (h k : Histories) → ((n : Name) → (n ≡ a.name → ⊥) → k n ≡ h n) → AreElsewhere base apps h → AreElsewhere base (slice_set apps i b) k
+    elsewhere-kept : {A : Type 0} (base h k : Name → A) → ((n : Name) → (n ≡ a.name → ⊥) → k n ≡ h n) → AreElsewhere base apps h → AreElsewhere base (slice_set apps i b) k
     elsewhere-kept base h k same away = λ n none.
         let was : is_among n (names_in apps) ≡ false = ap (is_among n) (sym names-kept) ∙ none in
         same n (other-name apps i a n at was) ∙ away n was
 
-    -- the histories, where one changed
-    pub histories-set : (history : R → Option (List Recording)) (base h k : Histories) → HoldHistories history base apps h → history b.recorder ≡ Some (k a.name) → ((n : Name) → (n ≡ a.name → ⊥) → k n ≡ h n)
-        → HoldHistories history base (slice_set apps i b) k
-    histories-set history base h k held told same = record {
-      each = λ j c there. get-cases (λ (x : Application R). history x.recorder ≡ Some (k x.name)) apps i j b a c at there (told ∙ ap (λ n. Some (k n)) (sym named))
-          (λ other was. held.each j c was ∙ ap Some (sym (same c.name (apart j c other was))));
-      elsewhere = elsewhere-kept base h k same held.elsewhere;
+    all-elsewhere : (base c d : Contents) → AreAlikeBut a.name c d → IsKeptElsewhere base apps c → IsKeptElsewhere base (slice_set apps i b) d
+    all-elsewhere base c d alike kept = record {
+      histories = elsewhere-kept base.histories c.histories d.histories alike.histories kept.histories;
+      snapshots = elsewhere-kept base.snapshots c.snapshots d.snapshots alike.snapshots kept.snapshots;
+    }
+
+    -- what is kept, where one changed
+    pub contents-set : (history : R → Option (List Recording)) (snapshots : R → Option (List Snapshot)) (base c d : Contents) → HoldContents history snapshots base apps c
+        → Tells (d.histories a.name) (d.snapshots a.name) (history b.recorder) (snapshots b.recorder) → AreAlikeBut a.name c d → HoldContents history snapshots base (slice_set apps i b) d
+    contents-set history snapshots base c d held tells alike = record {
+      each = λ j x there. get-cases (λ (y : Application R). TellsContents history snapshots y d) apps i j b a x at there
+          (record { told = tells.recordings ∙ ap (λ n. Some (d.histories n)) (sym named); told_snapshots = tells.snapshots ∙ ap (λ n. Some (d.snapshots n)) (sym named) })
+          (λ other was. let h = held.each j x was in record {
+            told = h.told ∙ ap Some (sym (alike.histories x.name (apart j x other was)));
+            told_snapshots = h.told_snapshots ∙ ap Some (sym (alike.snapshots x.name (apart j x other was)));
+          });
+      elsewhere = all-elsewhere base c d alike held.elsewhere;
     }
 
     -- the state, where one changed
-    pub holds-set : (history : R → Option (List Recording)) (capacity : R → ℕ) (base : Histories) (o : Options) (readings now : Option Readings) (s t : State) → Holds history capacity base o apps readings s → HoldsOne history capacity o b t
-        → ((n : Name) → (n ≡ a.name → ⊥) → t.histories n ≡ s.histories n) → ((n : Name) → (n ≡ a.name → ⊥) → t.used n ≡ s.used n) → now ≡ Some t.readings → Holds history capacity base o (slice_set apps i b) now t
-    holds-set history capacity base o readings now s t held one same counts read = record {
-      each = λ j c there. get-cases (λ (x : Application R). HoldsOne history capacity o x t) apps i j b a c at there one
+    pub holds-set : (history : R → Option (List Recording)) (snapshots : R → Option (List Snapshot)) (capacity : R → ℕ) (base : Contents) (o : Options) (readings now : Option Readings) (s t : State) → Holds history snapshots capacity base o apps readings s
+        → HoldsOne history snapshots capacity o b t → AreAlikeBut a.name s.contents t.contents → ((n : Name) → (n ≡ a.name → ⊥) → t.used n ≡ s.used n) → now ≡ Some t.readings → Holds history snapshots capacity base o (slice_set apps i b) now t
+    holds-set history snapshots capacity base o readings now s t held one alike counts read = record {
+      each = λ j c there. get-cases (λ (x : Application R). HoldsOne history snapshots capacity o x t) apps i j b a c at there one
           (λ other was. let h = held.each j c was in record {
-            told = h.told ∙ ap Some (sym (same c.name (apart j c other was)));
+            told = h.told ∙ ap Some (sym (alike.histories c.name (apart j c other was)));
+            told_snapshots = h.told_snapshots ∙ ap Some (sym (alike.snapshots c.name (apart j c other was)));
             room = h.room;
             turns = h.turns;
             counted = h.counted ∙ sym (counts c.name (apart j c other was));
           });
       clock = read;
-      elsewhere = elsewhere-kept base s.histories t.histories same held.elsewhere;
+      elsewhere = all-elsewhere base s.contents t.contents alike held.elsewhere;
     }
 
   -- an application that is the same
-  pub same-one : (history : R → Option (List Recording)) (capacity : R → ℕ) {snapshots : R → Option (List Snapshot)} {faults : R → ℕ} (o : Options) (a b : Application R) (s : State) → IsSame history capacity snapshots faults a b
-      → HoldsOne history capacity o a s → HoldsOne history capacity o b s
-  same-one history capacity o a b s same held = record {
-    told = same.told ∙ held.told ∙ ap (λ n. Some (s.histories n)) (sym same.stays.name);
+  pub same-one : (history : R → Option (List Recording)) (snapshots : R → Option (List Snapshot)) (capacity : R → ℕ) {faults : R → ℕ} (o : Options) (a b : Application R) (s : State) → IsSame history capacity snapshots faults a b
+      → HoldsOne history snapshots capacity o a s → HoldsOne history snapshots capacity o b s
+  same-one history snapshots capacity o a b s same held = record {
+    told = same.told ∙ held.told ∙ ap (λ n. Some (s.contents.histories n)) (sym same.stays.name);
+    told_snapshots = same.kept ∙ held.told_snapshots ∙ ap (λ n. Some (s.contents.snapshots n)) (sym same.stays.name);
     room = same.stays.room ∙ held.room;
     turns = same.stays.turns ∙ held.turns;
     counted = same.used ∙ held.counted ∙ ap s.used (sym same.stays.name);
   }
 
-  pub holds-same : (apps : List (Application R)) → AreDistinct (names_in apps) → (i : ℕ) (a b : Application R) → slice_get apps i ≡ Some a → (history : R → Option (List Recording)) (capacity : R → ℕ) {snapshots : R → Option (List Snapshot)} {faults : R → ℕ}
-      → IsSame history capacity snapshots faults a b → (base : Histories) (o : Options) (readings : Option Readings) (s : State) → Holds history capacity base o apps readings s → Holds history capacity base o (slice_set apps i b) readings s
-  holds-same apps distinct i a b at history capacity same base o readings s held =
-      holds-set apps distinct i a b at same.stays.name history capacity base o readings readings s s held (same-one history capacity o a b s same (held.each i a at)) (λ n other. refl) (λ n other. refl) held.clock
+  pub holds-same : (apps : List (Application R)) → AreDistinct (names_in apps) → (i : ℕ) (a b : Application R) → slice_get apps i ≡ Some a → (history : R → Option (List Recording)) (snapshots : R → Option (List Snapshot)) (capacity : R → ℕ) {faults : R → ℕ}
+      → IsSame history capacity snapshots faults a b → (base : Contents) (o : Options) (readings : Option Readings) (s : State) → Holds history snapshots capacity base o apps readings s → Holds history snapshots capacity base o (slice_set apps i b) readings s
+  holds-same apps distinct i a b at history snapshots capacity same base o readings s held =
+      holds-set apps distinct i a b at same.stays.name history snapshots capacity base o readings readings s s held (same-one history snapshots capacity o a b s same (held.each i a at)) (alike-same a.name s.contents) (λ n other. refl) held.clock
 
-  -- the state tells the histories
-  pub held-histories : (history : R → Option (List Recording)) (capacity : R → ℕ) (base : Histories) (o : Options) (apps : List (Application R)) (readings : Option Readings) (s : State) → Holds history capacity base o apps readings s → HoldHistories history base apps s.histories
-  held-histories history capacity base o apps readings s held = record { each = λ i a at. (held.each i a at).told; elsewhere = held.elsewhere }
-
-  -- the snapshots, where one application changed and kept its own
-  pub snapshots-kept : (snapshots : R → Option (List Snapshot)) (apps : List (Application R)) (i : ℕ) (a b : Application R) → slice_get apps i ≡ Some a → snapshots b.recorder ≡ snapshots a.recorder
-      → snapshots_in snapshots (slice_set apps i b) ≡ snapshots_in snapshots apps
-  snapshots-kept snapshots apps i a b at same = map-set (λ x. snapshots x.recorder) apps i b a at same
+  -- the state tells what is kept
+  pub held-contents : (history : R → Option (List Recording)) (snapshots : R → Option (List Snapshot)) (capacity : R → ℕ) (base : Contents) (o : Options) (apps : List (Application R)) (readings : Option Readings) (s : State)
+      → Holds history snapshots capacity base o apps readings s → HoldContents history snapshots base apps s.contents
+  held-contents history snapshots capacity base o apps readings s held = record {
+    each = λ i a at. let one = held.each i a at in record { told = one.told; told_snapshots = one.told_snapshots };
+    elsewhere = held.elsewhere;
+  }
 
   -- counts of faults
   pub later-none : (faults : R → ℕ) (apps : List (Application R)) → Later faults apps apps
@@ -120,17 +150,15 @@ module _ {R : Type 0} where
   later-set faults (c ∷ cs) (suc i) a b at less (suc j) = later-set faults cs i a b at less j
 
   -- what stays of all applications: none changed, or some after others, or one
-  pub all-none : (snapshots : R → Option (List Snapshot)) (faults : R → ℕ) (apps : List (Application R)) → AllStay snapshots faults apps apps
-  all-none snapshots faults apps = record { names = refl; kept = refl; later = later-none faults apps }
+  pub all-none : (faults : R → ℕ) (apps : List (Application R)) → AllStay faults apps apps
+  all-none faults apps = record { names = refl; later = later-none faults apps }
 
-  pub all-then : {snapshots : R → Option (List Snapshot)} {faults : R → ℕ} {a b c : List (Application R)} → AllStay snapshots faults a b → AllStay snapshots faults b c → AllStay snapshots faults a c
-  all-then {snapshots} {faults} {a} {b} {c} x y = record { names = y.names ∙ x.names; kept = y.kept ∙ x.kept; later = later-then faults a b c x.later y.later }
+  pub all-then : {faults : R → ℕ} {a b c : List (Application R)} → AllStay faults a b → AllStay faults b c → AllStay faults a c
+  all-then {faults} {a} {b} {c} x y = record { names = y.names ∙ x.names; later = later-then faults a b c x.later y.later }
 
-  pub all-set : {capacity : R → ℕ} {snapshots : R → Option (List Snapshot)} {faults : R → ℕ} (apps : List (Application R)) → AreDistinct (names_in apps) → (i : ℕ) (a b : Application R) → slice_get apps i ≡ Some a → Stays capacity snapshots faults a b
-      → AllStay snapshots faults apps (slice_set apps i b)
-  all-set {capacity} {snapshots} {faults} apps distinct i a b at stays = record {
+  pub all-set : {capacity : R → ℕ} {faults : R → ℕ} (apps : List (Application R)) → AreDistinct (names_in apps) → (i : ℕ) (a b : Application R) → slice_get apps i ≡ Some a → Stays capacity faults a b → AllStay faults apps (slice_set apps i b)
+  all-set {capacity} {faults} apps distinct i a b at stays = record {
     names = names-kept apps distinct i a b at stays.name;
-    kept = snapshots-kept snapshots apps i a b at stays.kept;
     later = later-set faults apps i a b at stays.later;
   }
 

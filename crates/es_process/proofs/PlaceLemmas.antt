@@ -1,18 +1,21 @@
 -- An application at its place, and what changes where it does.
-use Rattle.std.proofs.Common.{◌≡◌, inl, inr, ◌<◌, ◌+◌, ◌-◌, ℕ, zero, suc, Bool, true, false, IsTrue, List, [], ◌∷◌, ◌++◌, length, Option, Some, None, is_some, Contains, Result, IfOk, IfSome, slice_get, slice_set, get_or, map, cond, refl, sym, ap, ◌∙◌, subst, arith}
+use Rattle.std.proofs.Common.{◌≡◌, inl, inr, ◌⊎◌, ◌≤◌, ◌<◌, ◌+◌, ◌-◌, ℕ, zero, suc, Bool, true, false, IsTrue, List, [], ◌∷◌, ◌++◌, length, Option, Some, None, is_some, Contains, Result, Err, IfOk, IfSome, slice_get, slice_set, get_or, map, cond, refl, sym, ap, ◌∙◌, subst, arith}
 use Rattle.std.specs.Option.{option_to_list}
 use Rattle.std.specs.Str.{bytes_eq}
 use Rattle.std.proofs.lemmas.Option.{slice_get_within, slice_get-get_or}
 use Rattle.es_model.specs.Causes.{Rose}
 use Rattle.es_model.specs.Declaration.{app_named}
-use Rattle.es_model.specs.History.{Histories, log}
+use Rattle.es_model.specs.History.{log}
 use Rattle.es_model.specs.Tracking.{tracked_in}
 use Rattle.es_model.specs.Values.{Name}
 use Rattle.es_model.specs.declared.declaration.App.{App}
 use Rattle.es_model.specs.declared.declaration.System.{System}
+use Rattle.es_model.specs.declared.domain_event.DomainEvent.{DomainEvent}
 use Rattle.es_model.specs.declared.event.Notification.{Notification}
+use Rattle.es_model.specs.declared.event.Cause.TheVariants.{Notification as notification}
 use Rattle.es_model.specs.declared.event.Recording.{Recording}
 use Rattle.es_model.specs.declared.snapshot.Snapshot.{Snapshot}
+use Rattle.es_mapper.specs.Mapped.{event_of}
 use Rattle.es_io.specs.Readings.{Readings, first_reading, later_readings}
 use Rattle.es_recorder.specs.Held.{put}
 use Rattle.es_recorder.specs.Selections.{select_notifications}
@@ -20,17 +23,20 @@ use Rattle.es_process.specs.declared.application.Application.{Application}
 use Rattle.es_process.specs.declared.application.Processed.{Processed}
 use Rattle.es_process.specs.declared.draining.Pair.{Pair}
 use Rattle.es_process.specs.declared.faults.RunFault.{RunFault}
-use Rattle.es_process.specs.Answer.{Options, options, followed}
-use Rattle.es_process.specs.Decision.{logs_of}
-use Rattle.es_process.specs.inner.Following.{FindsNext, left_of, turns_left}
+use Rattle.es_process.specs.declared.faults.RunFault.TheVariants as fault
+use Rattle.es_process.specs.Answer.{Options, options, followed, put_each}
+use Rattle.es_process.specs.Contents.{Contents, added}
+use Rattle.es_process.specs.Decision.{logs_of, unreadable}
+use Rattle.es_process.specs.inner.Following.{FindsNext, trying, left_of, turns_left}
 use Rattle.es_process.specs.Drains.{IsPairOf, AreApps}
-use Rattle.es_process.specs.Leaves.{Processes}
-use Rattle.es_process.specs.Standing.{State, Holds, HoldHistories, AreDistinct, IsNextAfter, IsSame, AllStay, SomeRose, names_in}
-use Rattle.es_process.specs.SystemRules.{rules_of}
+use Rattle.es_process.specs.Leaves.{Tells, Processes, Converts, IsEntry}
+use Rattle.es_process.specs.Standing.{State, Holds, HoldContents, Faulted, AreDistinct, IsNextAfter, IsSame, AllStay, SomeRose, names_in}
+use Rattle.es_process.specs.SystemRules.{rules_of, decide_event, decide_entry}
 use Rattle.es_process.specs.Terms.{terms}
 use Rattle.es_process.proofs.AmongLemmas.{contains-cases, contains-none, is-same, put-here, put-other}
-use Rattle.es_process.proofs.HoldsLemmas.{contains-at, name-at, app-at, holds-set, holds-same, histories-set, all-then, all-set, rose-set, rose-then}
-use Rattle.es_process.proofs.PairLemmas.{finds_next, follows_in, next_id, recorded_in}
+use Rattle.es_process.proofs.HoldsLemmas.{contains-at, name-at, app-at, AreAlikeBut, alike-same, alike-added, holds-set, holds-same, held-contents, contents-set, all-then, all-set, rose-set, rose-then}
+use Rattle.es_process.proofs.PairLemmas.{finds_next, follows_in, history_in, snapshots_in, next_id, recorded_in, turns_over, entry_unread}
+use Rattle.es_process.proofs.StandingLemmas.{cut_here}
 use Rattle.es_process.proofs.SetLemmas.{get-same}
 
 -- a declared application is found by its name
@@ -56,19 +62,19 @@ next_found None tracked count next items left q same from popped counted empty =
 next_found (Some h) tracked count next items left q same from popped counted empty = finds_next (log h) tracked count items left q (same ∙ from) popped counted empty
 
 -- the next entry for a pair, by what the follower tracks and what comes after that in the leader's log
-pub finds_pair : (s : State) (p : Pair) (tracked : ℕ) (result : Result (Option Notification) RunFault) (follower leader : Option (List Recording)) → follower ≡ Some (s.histories p.follower_name) → leader ≡ Some (s.histories p.leader_name)
+pub finds_pair : (s : State) (p : Pair) (tracked : ℕ) (result : Result (Option Notification) RunFault) (follower leader : Option (List Recording)) → follower ≡ Some (s.contents.histories p.follower_name) → leader ≡ Some (s.contents.histories p.leader_name)
     → IfSome follower (λ h. tracked ≡ tracked_in h p.leader_name) → IfSome leader (λ h. IfOk result (IsNextAfter (log h) tracked)) → IfOk result (FindsNext s p)
 finds_pair s p tracked result follower leader f l value found =
-    let is : tracked ≡ tracked_in (s.histories p.follower_name) p.leader_name = subst (λ o. IfSome o (λ h. tracked ≡ tracked_in h p.leader_name)) f value in
-    subst (λ k. IfOk result (IsNextAfter (log (s.histories p.leader_name)) k)) is (subst (λ o. IfSome o (λ h. IfOk result (IsNextAfter (log h) tracked))) l found)
+    let is : tracked ≡ tracked_in (s.contents.histories p.follower_name) p.leader_name = subst (λ o. IfSome o (λ h. tracked ≡ tracked_in h p.leader_name)) f value in
+    subst (λ k. IfOk result (IsNextAfter (log (s.contents.histories p.leader_name)) k)) is (subst (λ o. IfSome o (λ h. IfOk result (IsNextAfter (log h) tracked))) l found)
 
 -- what was processed, by the state
-pub process_told : (sys : System) (o : Options) (s : State) (p : Pair) (capacity turns used id : ℕ) (name : Name) (result : Result Processed RunFault) (new : Option (List Recording)) (now : ℕ) (later : Option Readings)
+pub process_told : (sys : System) (o : Options) (s : State) (p : Pair) (capacity turns used id : ℕ) (name : Name) (result : Result Processed RunFault) (new : Option (List Recording)) (now : Option (List Snapshot)) (count : ℕ) (later : Option Readings)
     → capacity ≡ o.capacity → turns ≡ o.turns → used ≡ s.used p.follower_name → name ≡ p.follower_name → id ≡ next_id s p
-    → Processes p.leader_name id (followed (rules_of sys) (options capacity turns) name (s.histories p.follower_name) used (logs_of s.histories) p.leader_name id (first_reading s.readings)) (s.histories p.follower_name) used s.readings result new now later
-    → Processes p.leader_name (next_id s p) (follows_in (terms (rules_of sys) o) s p) (s.histories p.follower_name) (s.used p.follower_name) s.readings result new now later
-process_told sys o s p capacity turns used id name result new now later c t u n d so =
-    let Told : ℕ → ℕ → ℕ → Name → ℕ → Type 0 = λ x y z m k. Processes p.leader_name k (followed (rules_of sys) (options x y) m (s.histories p.follower_name) z (logs_of s.histories) p.leader_name k (first_reading s.readings)) (s.histories p.follower_name) z s.readings result new now later in
+    → Processes p.leader_name id (followed (rules_of sys) (options capacity turns) name (history_in s p) used (logs_of s.contents.histories) p.leader_name id (first_reading s.readings)) (history_in s p) (snapshots_in s p) used s.readings result new now count later
+    → Processes p.leader_name (next_id s p) (follows_in (terms (rules_of sys) o) s p) (history_in s p) (snapshots_in s p) (s.used p.follower_name) s.readings result new now count later
+process_told sys o s p capacity turns used id name result new now count later c t u n d so =
+    let Told : ℕ → ℕ → ℕ → Name → ℕ → Type 0 = λ x y z m k. Processes p.leader_name k (followed (rules_of sys) (options x y) m (history_in s p) z (logs_of s.contents.histories) p.leader_name k (first_reading s.readings)) (history_in s p) (snapshots_in s p) z s.readings result new now count later in
     subst (λ x. Told x o.turns (s.used p.follower_name) p.follower_name (next_id s p)) c
     (subst (λ x. Told capacity x (s.used p.follower_name) p.follower_name (next_id s p)) t
     (subst (λ x. Told capacity turns x p.follower_name (next_id s p)) u
@@ -102,36 +108,48 @@ module _ {R : Type 0} where
 
   -- the follower of a pair, before and after it processed the next notification
   module _ (apps : List (Application R)) (distinct : AreDistinct (names_in apps)) (p : Pair) (a b : Application R) (placed : slice_get (names_in apps) p.follower ≡ Some p.follower_name) (at : slice_get apps p.follower ≡ Some a) (named : b.name ≡ a.name)
-      (history : R → Option (List Recording)) (base : Histories) where
+      (history : R → Option (List Recording)) (snapshots : R → Option (List Snapshot)) (base : Contents) where
     is_follower : a.name ≡ p.follower_name
     is_follower = place-name apps p.follower p.follower_name a placed at
 
-    other : (n : Name) → (n ≡ a.name → ⊥) → n ≡ p.follower_name → ⊥
-    other n differ is = differ (is ∙ sym is_follower)
+    pub follower-still : (c : Contents) → HoldContents history snapshots base apps c → Tells (c.histories p.follower_name) (c.snapshots p.follower_name) (history b.recorder) (snapshots b.recorder) → HoldContents history snapshots base (slice_set apps p.follower b) c
+    follower-still c held tells =
+        contents-set apps distinct p.follower a b at named history snapshots base c c held (subst (λ n. Tells (c.histories n) (c.snapshots n) (history b.recorder) (snapshots b.recorder)) (sym is_follower) tells) (alike-same a.name c)
 
-    pub follower-still : (h : Histories) → HoldHistories history base apps h → history b.recorder ≡ Some (h p.follower_name) → HoldHistories history base (slice_set apps p.follower b) h
-    follower-still h held told =
-        histories-set apps distinct p.follower a b at named history base h h held (told ∙ ap (λ n. Some (h n)) (sym is_follower)) (λ n differ. refl)
+    -- what it tells, by the contents with what was added
+    added-told : (c : Contents) (r : Recording) (ss : List Snapshot) → Tells (c.histories p.follower_name ++ r ∷ []) (put_each (c.snapshots p.follower_name) ss) (history b.recorder) (snapshots b.recorder)
+        → Tells ((added c p.follower_name r ss).histories p.follower_name) ((added c p.follower_name r ss).snapshots p.follower_name) (history b.recorder) (snapshots b.recorder)
+    added-told c r ss tells = record {
+      recordings = tells.recordings ∙ ap Some (sym (put-here c.histories p.follower_name (c.histories p.follower_name ++ r ∷ [])));
+      snapshots = tells.snapshots ∙ ap Some (sym (put-here c.snapshots p.follower_name (put_each (c.snapshots p.follower_name) ss)));
+    }
 
-    pub follower-more : (s : State) (r : Recording) → HoldHistories history base apps s.histories → history b.recorder ≡ Some (s.histories p.follower_name ++ r ∷ []) → HoldHistories history base (slice_set apps p.follower b) (recorded_in s p r).histories
-    follower-more s r held told =
-        histories-set apps distinct p.follower a b at named history base s.histories (recorded_in s p r).histories held
-        (told ∙ ap Some (sym (ap (put s.histories p.follower_name (s.histories p.follower_name ++ r ∷ [])) is_follower ∙ put-here s.histories p.follower_name (s.histories p.follower_name ++ r ∷ []))))
-        (λ n differ. put-other s.histories p.follower_name (s.histories p.follower_name ++ r ∷ []) n (other n differ))
+    alike : (c : Contents) (r : Recording) (ss : List Snapshot) → AreAlikeBut a.name c (added c p.follower_name r ss)
+    alike c r ss = subst (λ n. AreAlikeBut n c (added c p.follower_name r ss)) (sym is_follower) (alike-added p.follower_name c r ss)
 
-    pub follower-recorded : (capacity : R → ℕ) (o : Options) (readings now : Option Readings) (s : State) (r : Recording) → Holds history capacity base o apps readings s → capacity b.recorder ≡ capacity a.recorder → b.turns ≡ a.turns
-        → history b.recorder ≡ Some (s.histories p.follower_name ++ r ∷ []) → b.used ≡ s.used p.follower_name + 1 → now ≡ Some (later_readings s.readings) → Holds history capacity base o (slice_set apps p.follower b) now (recorded_in s p r)
-    follower-recorded capacity o readings now s r held room turns told counted read =
+    pub follower-more : (c : Contents) (r : Recording) (ss : List Snapshot) → HoldContents history snapshots base apps c → Tells (c.histories p.follower_name ++ r ∷ []) (put_each (c.snapshots p.follower_name) ss) (history b.recorder) (snapshots b.recorder)
+        → HoldContents history snapshots base (slice_set apps p.follower b) (added c p.follower_name r ss)
+    follower-more c r ss held tells =
+        contents-set apps distinct p.follower a b at named history snapshots base c (added c p.follower_name r ss) held
+        (subst (λ n. Tells ((added c p.follower_name r ss).histories n) ((added c p.follower_name r ss).snapshots n) (history b.recorder) (snapshots b.recorder)) (sym is_follower) (added-told c r ss tells))
+        (alike c r ss)
+
+    pub follower-recorded : (capacity : R → ℕ) (o : Options) (readings now : Option Readings) (s : State) (r : Recording) (ss : List Snapshot) → Holds history snapshots capacity base o apps readings s → capacity b.recorder ≡ capacity a.recorder → b.turns ≡ a.turns
+        → Tells (history_in s p ++ r ∷ []) (put_each (snapshots_in s p) ss) (history b.recorder) (snapshots b.recorder) → b.used ≡ s.used p.follower_name + 1 → now ≡ Some (later_readings s.readings)
+        → Holds history snapshots capacity base o (slice_set apps p.follower b) now (recorded_in s p r ss)
+    follower-recorded capacity o readings now s r ss held room turns tells counted read =
         let one = held.each p.follower a at in
         let mine : b.name ≡ p.follower_name = named ∙ is_follower in
-        holds-set apps distinct p.follower a b at named history capacity base o readings now s (recorded_in s p r) held
+        let there = added-told s.contents r ss tells in
+        holds-set apps distinct p.follower a b at named history snapshots capacity base o readings now s (recorded_in s p r ss) held
         (record {
-          told = told ∙ ap Some (sym (ap (put s.histories p.follower_name (s.histories p.follower_name ++ r ∷ [])) mine ∙ put-here s.histories p.follower_name (s.histories p.follower_name ++ r ∷ [])));
+          told = there.recordings ∙ ap (λ n. Some ((added s.contents p.follower_name r ss).histories n)) (sym mine);
+          told_snapshots = there.snapshots ∙ ap (λ n. Some ((added s.contents p.follower_name r ss).snapshots n)) (sym mine);
           room = room ∙ one.room;
           turns = turns ∙ one.turns;
           counted = counted ∙ sym (ap (put s.used p.follower_name (s.used p.follower_name + 1)) mine ∙ put-here s.used p.follower_name (s.used p.follower_name + 1));
         })
-        (λ n differ. put-other s.histories p.follower_name (s.histories p.follower_name ++ r ∷ []) n (other n differ)) (λ n differ. put-other s.used p.follower_name (s.used p.follower_name + 1) n (other n differ)) read
+        (alike s.contents r ss) (λ n differ. put-other s.used p.follower_name (s.used p.follower_name + 1) n (λ is. differ (is ∙ sym is_follower))) read
 
 -- two applications that are the same as they were, one after another
 module _ {R : Type 0} (history : R → Option (List Recording)) (capacity : R → ℕ) (snapshots : R → Option (List Snapshot)) (faults : R → ℕ) (apps : List (Application R)) (distinct : AreDistinct (names_in apps)) (i j : ℕ) (n m : Name)
@@ -145,7 +163,7 @@ module _ {R : Type 0} (history : R → Option (List Recording)) (capacity : R �
   at_first : slice_get apps i ≡ Some first_app
   at_first = place-read apps i n x placed
 
-  first-stay : AllStay snapshots faults apps (slice_set apps i b)
+  first-stay : AllStay faults apps (slice_set apps i b)
   first-stay = all-set apps distinct i first_app b at_first first.stays
 
   pub first-names : names_in (slice_set apps i b) ≡ names_in apps
@@ -163,21 +181,21 @@ module _ {R : Type 0} (history : R → Option (List Recording)) (capacity : R �
   still_distinct : AreDistinct (names_in (slice_set apps i b))
   still_distinct = subst AreDistinct (sym first-names) distinct
 
-  pub first-holds : (base : Histories) (o : Options) (readings : Option Readings) (s : State) → Holds history capacity base o apps readings s → Holds history capacity base o (slice_set apps i b) readings s
-  first-holds = holds-same apps distinct i first_app b at_first history capacity first
+  pub first-holds : (base : Contents) (o : Options) (readings : Option Readings) (s : State) → Holds history snapshots capacity base o apps readings s → Holds history snapshots capacity base o (slice_set apps i b) readings s
+  first-holds = holds-same apps distinct i first_app b at_first history snapshots capacity first
 
   -- what the two hold
-  pub first-told : (base : Histories) (o : Options) (readings : Option Readings) (s : State) → Holds history capacity base o apps readings s → history first_app.recorder ≡ Some (s.histories n)
-  first-told base o readings s held = (held.each i first_app at_first).told ∙ ap (λ k. Some (s.histories k)) (place-name apps i n first_app placed at_first)
+  pub first-told : (base : Contents) (o : Options) (readings : Option Readings) (s : State) → Holds history snapshots capacity base o apps readings s → history first_app.recorder ≡ Some (s.contents.histories n)
+  first-told base o readings s held = (held.each i first_app at_first).told ∙ ap (λ k. Some (s.contents.histories k)) (place-name apps i n first_app placed at_first)
 
-  pub second-told : (base : Histories) (o : Options) (readings : Option Readings) (s : State) → Holds history capacity base o apps readings s → history second_app.recorder ≡ Some (s.histories m)
-  second-told base o readings s held = ((first-holds base o readings s held).each j second_app at_second).told ∙ ap (λ k. Some (s.histories k)) (place-name (slice_set apps i b) j m second_app still_placed at_second)
+  pub second-told : (base : Contents) (o : Options) (readings : Option Readings) (s : State) → Holds history snapshots capacity base o apps readings s → history second_app.recorder ≡ Some (s.contents.histories m)
+  second-told base o readings s held = ((first-holds base o readings s held).each j second_app at_second).told ∙ ap (λ k. Some (s.contents.histories k)) (place-name (slice_set apps i b) j m second_app still_placed at_second)
 
   module _ (second : IsSame history capacity snapshots faults second_app d) where
-    pub both-hold : (base : Histories) (o : Options) (readings : Option Readings) (s : State) → Holds history capacity base o apps readings s → Holds history capacity base o (slice_set (slice_set apps i b) j d) readings s
-    both-hold base o readings s held = holds-same (slice_set apps i b) still_distinct j second_app d at_second history capacity second base o readings s (first-holds base o readings s held)
+    pub both-hold : (base : Contents) (o : Options) (readings : Option Readings) (s : State) → Holds history snapshots capacity base o apps readings s → Holds history snapshots capacity base o (slice_set (slice_set apps i b) j d) readings s
+    both-hold base o readings s held = holds-same (slice_set apps i b) still_distinct j second_app d at_second history snapshots capacity second base o readings s (first-holds base o readings s held)
 
-    pub both-stay : AllStay snapshots faults apps (slice_set (slice_set apps i b) j d)
+    pub both-stay : AllStay faults apps (slice_set (slice_set apps i b) j d)
     both-stay = all-then first-stay (all-set (slice_set apps i b) still_distinct j second_app d at_second second.stays)
 
     pub both-left : (k : ℕ) → turns_left (slice_set (slice_set apps i b) j d) k ≡ turns_left apps k
@@ -200,17 +218,64 @@ module _ {R : Type 0} (sys : System) (apps : List (Application R)) (p : Pair) (p
   pub leader-declared : IsTrue (is_some (app_named sys.apps p.leader_name))
   leader-declared = place-named sys (names_in apps) p.leader p.leader_name pair.apps pair.placed.leader
 
-  module _ (history : R → Option (List Recording)) (capacity : R → ℕ) (base : Histories) (o : Options) (readings : Option Readings) (s : State) (held : Holds history capacity base o apps readings s) (n : Notification) (next : FindsNext s p (Some n)) where
-    pub entry-there : slice_get (logs_of s.histories p.leader_name) (n.id - 1) ≡ Some n.event
-    entry-there = ap (slice_get (log (s.histories p.leader_name))) (let e : n.id - 1 ≡ tracked_in (s.histories p.follower_name) p.leader_name = omega (arith, next.1) in e) ∙ next.0
+  module _ (history : R → Option (List Recording)) (snapshots : R → Option (List Snapshot)) (capacity : R → ℕ) (base : Contents) (o : Options) (readings : Option Readings) (s : State) (held : Holds history snapshots capacity base o apps readings s)
+      (n : Notification) (next : FindsNext s p (Some n)) where
+    follower-named : follower_app.name ≡ p.follower_name
+    follower-named = place-name apps p.follower p.follower_name follower_app pair.placed.follower at_follower
 
-    pub follower-told : history follower_app.recorder ≡ Some (s.histories p.follower_name)
-    follower-told = (held.each p.follower follower_app at_follower).told ∙ ap (λ k. Some (s.histories k)) (place-name apps p.follower p.follower_name follower_app pair.placed.follower at_follower)
+    entry-there : slice_get (logs_of s.contents.histories p.leader_name) (n.id - 1) ≡ Some n.event
+    entry-there = ap (slice_get (log (s.contents.histories p.leader_name))) (let e : n.id - 1 ≡ tracked_in (s.contents.histories p.follower_name) p.leader_name = omega (arith, next.1) in e) ∙ next.0
 
-    pub processed-told : (result : Result Processed RunFault) (new : Option (List Recording)) (now : ℕ) (later : Option Readings)
-        → Processes p.leader_name n.id (followed (rules_of sys) (options (capacity follower_app.recorder) follower_app.turns) follower_app.name (s.histories p.follower_name) follower_app.used (logs_of s.histories) p.leader_name n.id (first_reading s.readings)) (s.histories p.follower_name) follower_app.used s.readings result new now later
-        → Processes p.leader_name (next_id s p) (follows_in (terms (rules_of sys) o) s p) (s.histories p.follower_name) (s.used p.follower_name) s.readings result new now later
-    processed-told result new now later so =
+    -- the entry stands for its event
+    pub entry-means : (e : DomainEvent) → event_of sys n.event ≡ Some e → IsEntry sys (logs_of s.contents.histories) p.leader_name n.id e
+    entry-means e means = record { entry = n.event; there = entry-there; means = means }
+
+    pub follower-told : history follower_app.recorder ≡ Some (history_in s p)
+    follower-told = (held.each p.follower follower_app at_follower).told ∙ ap (λ k. Some (s.contents.histories k)) follower-named
+
+    pub follower-kept : snapshots follower_app.recorder ≡ Some (snapshots_in s p)
+    follower-kept = (held.each p.follower follower_app at_follower).told_snapshots ∙ ap (λ k. Some (s.contents.snapshots k)) follower-named
+
+    pub processed-told : (result : Result Processed RunFault) (new : Option (List Recording)) (now : Option (List Snapshot)) (count : ℕ) (later : Option Readings)
+        → Processes p.leader_name n.id (followed (rules_of sys) (options (capacity follower_app.recorder) follower_app.turns) follower_app.name (history_in s p) follower_app.used (logs_of s.contents.histories) p.leader_name n.id (first_reading s.readings)) (history_in s p) (snapshots_in s p) follower_app.used s.readings result new now count later
+        → Processes p.leader_name (next_id s p) (follows_in (terms (rules_of sys) o) s p) (history_in s p) (snapshots_in s p) (s.used p.follower_name) s.readings result new now count later
+    processed-told result new now count later so =
         let one = held.each p.follower follower_app at_follower in
-        let is = place-name apps p.follower p.follower_name follower_app pair.placed.follower at_follower in
-        process_told sys o s p (capacity follower_app.recorder) follower_app.turns follower_app.used n.id follower_app.name result new now later one.room one.turns (one.counted ∙ ap s.used is) is next.1 so
+        process_told sys o s p (capacity follower_app.recorder) follower_app.turns follower_app.used n.id follower_app.name result new now count later one.room one.turns (one.counted ∙ ap s.used follower-named) follower-named next.1 so
+
+    module _ (prompted : List Name) (rest : List (Name × Name)) (u : Option (List ℕ)) where
+      abbrev kept : Contents → Type 0
+      kept = HoldContents history snapshots base apps
+
+      still_kept : kept s.contents
+      still_kept = held-contents history snapshots capacity base o apps readings s held
+
+      cut_still : Faulted (terms (rules_of sys) o) (trying s p prompted rest) fault.NoMemory kept u u
+      cut_still = cut_here (terms (rules_of sys) o) s prompted ((p.leader_name, p.follower_name) ∷ rest) kept u still_kept
+
+      -- the follower has no turn left
+      pub no-turn : (f : RunFault) → ((follower_app.turns ≤ follower_app.used) × (f ≡ fault.Turns follower_app.name follower_app.turns)) ⊎ (f ≡ fault.NoMemory) → Faulted (terms (rules_of sys) o) (trying s p prompted rest) f kept u u
+      no-turn f (inr is) = subst (λ x. Faulted (terms (rules_of sys) o) (trying s p prompted rest) x kept u u) (sym is) cut_still
+      no-turn f (inl so) =
+          let one = held.each p.follower follower_app at_follower in
+          let over : o.turns ≤ s.used p.follower_name = omega (arith, so.0, one.turns, one.counted, ap s.used follower-named) in
+          let named : f ≡ fault.Turns p.follower_name o.turns = so.1 ∙ (λ i. fault.Turns (follower-named i) (one.turns i)) in
+          subst (λ x. Faulted (terms (rules_of sys) o) (trying s p prompted rest) x kept u u) (sym named) (turns_over (terms (rules_of sys) o) s p pair.pairs pair.placed.apart prompted rest u n.event kept next.0 over still_kept)
+
+      -- its leader's entry has no meaning
+      undecided : event_of sys n.event ≡ None → (rules_of sys).decide p.follower_name (history_in s p) (logs_of s.contents.histories) (notification p.leader_name (next_id s p)) (first_reading s.readings) ≡ unreadable p.leader_name (next_id s p)
+      undecided unread =
+          ap (decide_entry sys p.follower_name (history_in s p) p.leader_name (next_id s p) (first_reading s.readings)) (ap (λ k. slice_get (log (s.contents.histories p.leader_name)) (k - 1)) (sym next.1) ∙ entry-there)
+          ∙ ap (decide_event sys p.follower_name (history_in s p) p.leader_name (next_id s p) (first_reading s.readings)) unread
+
+      pub not-converted : follower_app.used < follower_app.turns → (f : RunFault) → Converts sys p.leader_name n (Err f) → Faulted (terms (rules_of sys) o) (trying s p prompted rest) f kept u u
+      not-converted free (fault.Unreadable name id) so =
+          let one = held.each p.follower follower_app at_follower in
+          let left : s.used p.follower_name < o.turns = omega (arith, free, one.turns, one.counted, ap s.used follower-named) in
+          let named : fault.Unreadable name id ≡ fault.Unreadable p.leader_name (next_id s p) = λ i. fault.Unreadable (so.1 i) ((so.2 ∙ next.1) i) in
+          subst (λ x. Faulted (terms (rules_of sys) o) (trying s p prompted rest) x kept u u) (sym named) (entry_unread (terms (rules_of sys) o) s p pair.pairs pair.placed.apart prompted rest u n.event kept next.0 left (undecided so.0) still_kept)
+      not-converted free fault.NoMemory so = cut_still
+      not-converted free fault.Recorder so = absurd so
+      not-converted free (fault.Refused app leader id recordings code rule) so = absurd so
+      not-converted free (fault.Turns app turns) so = absurd so
+      not-converted free (fault.Full app last capacity) so = absurd so

@@ -1,19 +1,26 @@
 -- Laws of runs: turns one after another, and what steps leave and write.
-use Rattle.std.proofs.Common.{◌≡◌, ℕ, zero, suc, ◌+◌, true, false, List, [], ◌∷◌, ◌++◌, Option, Some, None, slice_get, if◌then◌else◌, refl, sym, ap, ◌∙◌, subst, append-nil, append_assoc, arith}
+use Rattle.std.proofs.Common.{◌≡◌, ℕ, zero, suc, ◌+◌, List, [], ◌∷◌, ◌++◌, Option, Some, None, slice_get, refl, sym, ap, ◌∙◌, subst, append-nil, append_assoc, arith}
 use Rattle.std.specs.Option.{option_map}
 use Rattle.es_model.specs.declared.event.StoredEvent.{StoredEvent}
-use Rattle.es_model.specs.History.{Histories, log, latest}
+use Rattle.es_model.specs.declared.snapshot.Snapshot.{Snapshot}
+use Rattle.es_model.specs.History.{Histories, log}
 use Rattle.es_model.specs.Lines.{Line, text, long, over}
+use Rattle.es_model.specs.Snapshots.{put_snapshot}
 use Rattle.es_model.specs.Tracking.{tracked_in}
 use Rattle.es_model.specs.Values.{Name}
-use Rattle.es_io.specs.Readings.{first_reading}
+use Rattle.es_io.specs.Readings.{Readings, first_reading}
 use Rattle.es_recorder.specs.Held.{put}
+use Rattle.es_recorder.proofs.HeldLemmas.{put-put}
+use Rattle.es_lines.specs.Requests.{Asked, asks, refused}
+use Rattle.es_lines.specs.declared.request.Request.{Request}
+use Rattle.es_lines.specs.declared.request.Request.TheVariants as request
 use Rattle.es_lines.specs.declared.ends.End.{End}
-use Rattle.es_lines.specs.declared.replies.Reply.TheVariants.{Conflict}
-use Rattle.es_process.specs.Answer.{Options, Answer, says, accepts, ends, answer, differs, Followed, adds, stops, followed}
+use Rattle.es_lines.specs.declared.replies.Reply.{Reply}
+use Rattle.es_process.specs.Answer.{Options, Answer, says, accepts, takes, ends, request_answer, takes_reading, put_each, Followed, adds, stops, followed}
+use Rattle.es_process.specs.Contents.{Contents, contents, recorded, snapped, added}
 use Rattle.es_process.specs.Decision.{Rules, logs_of}
-use Rattle.es_process.specs.Requests.{Request, command, question, sync, stop, no_request}
-use Rattle.es_process.specs.SingleThread.{Place, Outcome, Turn, finished, goes_on, turn_at, turn_of, line_turn, request_turn, command_turn, next_turn, followed_turn, past_line, only_says, Step, records, writes, Run, steps_of, after, go_on, run_within, IsRun, left_by, written_by, as_line, Goes}
+use Rattle.es_process.specs.SingleThread.{Place, Outcome, Turn, finished, goes_on, turn_at, turn_of, line_turn, request_turn, app_turn, answer_turn, readings_after, next_turn, followed_turn, Step, records, snaps, writes, snaps_each, writes_of, Run, steps_of, after, go_on, run_within, IsRun, left_by, written_by, as_line, Goes}
+use Rattle.es_process.proofs.AmongLemmas.{put-each, put-here}
 
 -- where one part comes to an end alike, so does the whole
 alike : (o p : Option Run) (k : Run → Run) (d : Run) → ((x : Run) → o ≡ Some x → p ≡ Some x) → option_map k o ≡ Some d → option_map k p ≡ Some d
@@ -43,60 +50,97 @@ rest_of steps d None is = absurd (cc is)
 rest_of steps d (Some x) is = record { run = x; is = refl; parts = let e : d ≡ after steps x = cc is in e }
 
 -- what steps leave and write, one after another
-pub left_by-append : (a b : List Step) (h : Histories) → left_by (a ++ b) h ≡ left_by b (left_by a h)
-left_by-append [] b h = refl
-left_by-append (records app r ∷ a) b h = left_by-append a b (put h app (h app ++ r ∷ []))
-left_by-append (writes t ∷ a) b h = left_by-append a b h
+pub left_by-append : (a b : List Step) (c : Contents) → left_by (a ++ b) c ≡ left_by b (left_by a c)
+left_by-append [] b c = refl
+left_by-append (records app r ∷ a) b c = left_by-append a b (recorded c app r)
+left_by-append (snaps app s ∷ a) b c = left_by-append a b (snapped c app s)
+left_by-append (writes t ∷ a) b c = left_by-append a b c
 
 pub written_by-append : (a b : List Step) → written_by (a ++ b) ≡ written_by a ++ written_by b
 written_by-append [] b = refl
 written_by-append (records app r ∷ a) b = written_by-append a b
+written_by-append (snaps app s ∷ a) b = written_by-append a b
 written_by-append (writes t ∷ a) b = ap (λ (x : List ℕ). as_line t ++ x) (written_by-append a b) ∙ sym (append_assoc (as_line t) (written_by a) (written_by b))
 
--- the histories after a turn are those that its steps leave
-abbrev pub Leaves : Histories → Turn → Type 0
-Leaves h (finished end) = Unit {0}
-Leaves h (goes_on outcome next) = left_by (steps_of outcome) h ≡ next.histories
+-- a map in which nothing is changed
+pub put-same : {A : Type 0} (q : Name → A) (name : Name) → put q name (q name) ≡ q
+put-same q name = λ i n. put-each (λ m y. y ≡ q m) q name (q name) n refl refl i
 
-command_leaves : (at : Place) (lines : List Line) (app : Name) (a : Answer) → Leaves at.histories (command_turn at lines app a)
-command_leaves at lines app (says reply) = refl
-command_leaves at lines app (accepts r reply) = refl
-command_leaves at lines app (ends end) = tt
+-- what some snapshots leave
+pub left_by-snaps : (app : Name) (ss : List Snapshot) (c : Contents) → left_by (snaps_each app ss) c ≡ contents c.histories (put c.snapshots app (put_each (c.snapshots app) ss))
+left_by-snaps app [] c = λ i. contents c.histories (sym (put-same c.snapshots app) i)
+left_by-snaps app (s ∷ ss) c =
+    left_by-snaps app ss (snapped c app s)
+    ∙ (λ i. contents c.histories (put (put c.snapshots app (put_snapshot (c.snapshots app) s)) app (put_each (put-here c.snapshots app (put_snapshot (c.snapshots app) s) i) ss)))
+    ∙ (λ i. contents c.histories (put-put c.snapshots app (put_each (put_snapshot (c.snapshots app) s) ss) (put_snapshot (c.snapshots app) s) i))
 
-followed_leaves : (rules : Rules) (at : Place) (app : Name) (f : Followed) → Leaves at.histories (followed_turn rules at app f)
+-- what a recording and its snapshots leave
+pub left_by-added : (app : Name) (r : _) (ss : List Snapshot) (c : Contents) → left_by (records app r ∷ snaps_each app ss) c ≡ added c app r ss
+left_by-added app r ss c = left_by-snaps app ss (recorded c app r)
+
+-- snapshots write nothing
+pub written_by-snaps : (app : Name) (ss : List Snapshot) → written_by (snaps_each app ss) ≡ []
+written_by-snaps app [] = refl
+written_by-snaps app (s ∷ ss) = written_by-snaps app ss
+
+writes_leave : (o : Option Reply) (c : Contents) → left_by (writes_of o) c ≡ c
+writes_leave None c = refl
+writes_leave (Some reply) c = refl
+
+-- what a recording and its snapshots leave, and a reply after them
+pub steps-left : (app : Name) (r : _) (ss : List Snapshot) (o : Option Reply) (c : Contents) → left_by ((records app r ∷ snaps_each app ss) ++ writes_of o) c ≡ added c app r ss
+steps-left app r ss o c = left_by-append (records app r ∷ snaps_each app ss) (writes_of o) c ∙ writes_leave o (left_by (records app r ∷ snaps_each app ss) c) ∙ left_by-added app r ss c
+
+-- what the applications keep after a turn is what its steps leave
+abbrev pub Leaves : Contents → Turn → Type 0
+Leaves c (finished end) = Unit {0}
+Leaves c (goes_on outcome next) = left_by (steps_of outcome) c ≡ next.contents
+
+answer_leaves : (at : Place) (lines : List Line) (app : Name) (readings : Readings) (a : Answer) → Leaves at.contents (answer_turn at lines app readings a)
+answer_leaves at lines app readings (says reply) = refl
+answer_leaves at lines app readings (accepts r ss reply) =
+    steps-left app r ss (Some reply) at.contents
+answer_leaves at lines app readings (takes s reply) = refl
+answer_leaves at lines app readings (ends end) = tt
+
+followed_leaves : (rules : Rules) (at : Place) (app : Name) (f : Followed) → Leaves at.contents (followed_turn rules at app f)
 followed_leaves rules at app (stops end) = tt
-followed_leaves rules at app (adds r) = refl
+followed_leaves rules at app (adds r ss) = steps-left app r ss None at.contents
 
 module _ (rules : Rules) (options : Options) (openings : Histories) where
-  request_leaves : (at : Place) (lines : List Line) (r : Request) → Leaves at.histories (request_turn rules options at lines r)
-  request_leaves at lines (no_request told) = refl
-  request_leaves at lines sync = refl
-  request_leaves at lines stop = refl
-  request_leaves at lines (question app reply) = refl
-  request_leaves at lines (command app asked id expect) =
-      elim (differs (at.histories app) id expect) as (λ b. Leaves at.histories (if b then goes_on (only_says (Conflict (latest (log (at.histories app)) id))) (past_line at lines) else command_turn at lines app (answer rules options.capacity app (at.histories app) (logs_of at.histories) asked id expect (first_reading at.readings)))) [
-        | true ↦ refl
-        | false ↦ command_leaves at lines app (answer rules options.capacity app (at.histories app) (logs_of at.histories) asked id expect (first_reading at.readings))
-      ]
+  app_leaves : (at : Place) (lines : List Line) (app : Name) (r : Request) → Leaves at.contents (app_turn rules options at lines app r)
+  app_leaves at lines app r =
+      answer_leaves at lines app (readings_after (takes_reading (at.contents.histories app) r) at.readings)
+      (request_answer rules options.capacity app (at.contents.histories app) (at.contents.snapshots app) (logs_of at.contents.histories) r (first_reading at.readings))
 
-  line_leaves : (at : Place) (lines : List Line) → Leaves at.histories (line_turn rules options openings at lines)
+  request_leaves : (at : Place) (lines : List Line) (a : Asked) → Leaves at.contents (request_turn rules options at lines a)
+  request_leaves at lines (refused fault) = refl
+  request_leaves at lines (asks request.Sync) = refl
+  request_leaves at lines (asks request.Stop) = refl
+  request_leaves at lines (asks (request.Do app c)) = app_leaves at lines app (request.Do app c)
+  request_leaves at lines (asks (request.Get app id version)) = app_leaves at lines app (request.Get app id version)
+  request_leaves at lines (asks (request.Log app section)) = app_leaves at lines app (request.Log app section)
+  request_leaves at lines (asks (request.Tracking app leader)) = app_leaves at lines app (request.Tracking app leader)
+  request_leaves at lines (asks (request.Snapshot app id)) = app_leaves at lines app (request.Snapshot app id)
+
+  line_leaves : (at : Place) (lines : List Line) → Leaves at.contents (line_turn rules options openings at lines)
   line_leaves at [] = tt
   line_leaves at (text t ∷ lines) = request_leaves at lines (rules.request t)
   line_leaves at (long ∷ lines) = refl
   line_leaves at (over ∷ lines) = tt
 
-  next_leaves : (at : Place) (leader app : Name) (rest : List (Name × Name)) (o : Option StoredEvent) → Leaves at.histories (next_turn rules options at leader app rest o)
+  next_leaves : (at : Place) (leader app : Name) (rest : List (Name × Name)) (o : Option StoredEvent) → Leaves at.contents (next_turn rules options at leader app rest o)
   next_leaves at leader app rest None = refl
   next_leaves at leader app rest (Some e) =
-      followed_leaves rules at app (followed rules options app (at.histories app) (at.used app) (logs_of at.histories) leader (tracked_in (at.histories app) leader + 1) (first_reading at.readings))
+      followed_leaves rules at app (followed rules options app (at.contents.histories app) (at.used app) (logs_of at.contents.histories) leader (tracked_in (at.contents.histories app) leader + 1) (first_reading at.readings))
 
-  turn_leaves : (at : Place) (pending : List (Name × Name)) (prompted : List Name) → Leaves at.histories (turn_of rules options openings at pending prompted)
-  turn_leaves at (p ∷ rest) prompted = next_leaves at p.0 p.1 rest (slice_get (log (at.histories p.0)) (tracked_in (at.histories p.1) p.0))
+  turn_leaves : (at : Place) (pending : List (Name × Name)) (prompted : List Name) → Leaves at.contents (turn_of rules options openings at pending prompted)
+  turn_leaves at (p ∷ rest) prompted = next_leaves at p.0 p.1 rest (slice_get (log (at.contents.histories p.0)) (tracked_in (at.contents.histories p.1) p.0))
   turn_leaves at [] (leader ∷ prompted) = refl
   turn_leaves at [] [] = line_leaves at at.lines
 
-  pub turn-leaves : (at next : Place) (outcome : Outcome) → turn_at rules options openings at ≡ goes_on outcome next → left_by (steps_of outcome) at.histories ≡ next.histories
-  turn-leaves at next outcome is = subst (Leaves at.histories) is (turn_leaves at at.pending at.prompted)
+  pub turn-leaves : (at next : Place) (outcome : Outcome) → turn_at rules options openings at ≡ goes_on outcome next → left_by (steps_of outcome) at.contents ≡ next.contents
+  turn-leaves at next outcome is = subst (Leaves at.contents) is (turn_leaves at at.pending at.prompted)
 
   -- a run that ends within some turns ends the same within one more
   run_within-more : (n : ℕ) (at : Place) (d : Run) → run_within n rules options openings at ≡ Some d → run_within (suc n) rules options openings at ≡ Some d
@@ -140,7 +184,7 @@ module _ (rules : Rules) (options : Options) (openings : Histories) where
         ∙ so.go (suc k)
         ∙ ap (option_map (after steps)) (run_within-turn k now next outcome is)
         ∙ after_both steps (steps_of outcome) (run_within k rules options openings next);
-    left = left_by-append steps (steps_of outcome) at.histories ∙ ap (left_by (steps_of outcome)) so.left ∙ turn-leaves now next outcome is;
+    left = left_by-append steps (steps_of outcome) at.contents ∙ ap (left_by (steps_of outcome)) so.left ∙ turn-leaves now next outcome is;
   }
 
   pub Goes-then : (at now next : Place) (a b : List Step) → Goes rules options openings at now a → Goes rules options openings now next b → Goes rules options openings at next (a ++ b)
@@ -151,7 +195,7 @@ module _ (rules : Rules) (options : Options) (openings : Histories) where
         ∙ x.go (y.turns + k)
         ∙ ap (option_map (after a)) (y.go k)
         ∙ after_both a b (run_within k rules options openings next);
-    left = left_by-append a b at.histories ∙ ap (left_by b) x.left ∙ y.left;
+    left = left_by-append a b at.contents ∙ ap (left_by b) x.left ∙ y.left;
   }
 
   -- the run from the first place, by the run from the second

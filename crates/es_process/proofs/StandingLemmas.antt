@@ -1,16 +1,19 @@
 -- Parts of a run, one after another.
 use Rattle.std.proofs.Common.{◌≡◌, ℕ, List, [], ◌∷◌, ◌++◌, Option, Some, None, refl, sym, ap, ◌∙◌, subst, append-nil, append_assoc}
 use Rattle.std.specs.Io.KnownBytes.{Appends}
+use Rattle.es_model.specs.declared.event.Recording.{Recording}
+use Rattle.es_model.specs.declared.snapshot.Snapshot.{Snapshot}
 use Rattle.es_model.specs.History.{Histories}
 use Rattle.es_model.specs.Values.{Name}
 use Rattle.es_lines.specs.declared.ends.End.{End}
 use Rattle.es_lines.specs.declared.ends.End.TheVariants.{Refused, Turns, Unreadable, Full}
 use Rattle.es_process.specs.declared.faults.RunFault.{RunFault}
 use Rattle.es_process.specs.declared.faults.RunFault.TheVariants as fault
-use Rattle.es_process.specs.SingleThread.{Place, Outcome, goes_on, turn_at, Step, records, writes, Run, Goes, steps_of, left_by, written_by}
+use Rattle.es_process.specs.Contents.{Contents}
+use Rattle.es_process.specs.SingleThread.{Place, Outcome, goes_on, turn_at, Step, records, snaps, writes, snaps_each, Run, Goes, steps_of, left_by, written_by}
 use Rattle.es_process.specs.Standing.{State, Places, standing, Came, Ended, CutShort, Faulted, Cut, IsFrontOf}
 use Rattle.es_process.specs.Terms.{Terms}
-use Rattle.es_process.proofs.SingleThreadLemmas.{Goes-none, Goes-one, Goes-then, Goes-run, Goes-after, left_by-append, written_by-append}
+use Rattle.es_process.proofs.SingleThreadLemmas.{Goes-none, Goes-one, Goes-then, Goes-run, Goes-after, left_by-append, written_by-append, written_by-snaps}
 
 -- bytes that were written one after another
 pub appends_nothing : (u : Option (List ℕ)) → Appends u u []
@@ -27,7 +30,24 @@ appends_then (Some xs) (Some ys) (Some zs) a b x y = y ∙ ap (λ (t : List ℕ)
 pub front_none : (steps : List Step) → IsFrontOf [] steps
 front_none [] = refl
 front_none (records app r ∷ rest) = refl
+front_none (snaps app s ∷ rest) = refl
 front_none (writes t ∷ rest) = (_, refl)
+
+-- the first of some snapshots are put before the others
+snaps_each-append : (app : Name) (front rest : List Snapshot) → snaps_each app (front ++ rest) ≡ snaps_each app front ++ snaps_each app rest
+snaps_each-append app [] rest = refl
+snaps_each-append app (s ∷ front) rest = ap (λ (x : List Step). snaps app s ∷ x) (snaps_each-append app front rest)
+
+-- a recording and its snapshots, and what is done after them, in two parts
+pub adds-parts : (app : Name) (r : Recording) (ss front rest : List Snapshot) (behind : List Step) → ss ≡ front ++ rest → (records app r ∷ snaps_each app ss) ++ behind ≡ (records app r ∷ snaps_each app front) ++ (snaps_each app rest ++ behind)
+adds-parts app r ss front rest behind parts =
+    ap (λ (x : List Snapshot). (records app r ∷ snaps_each app x) ++ behind) parts
+    ∙ ap (λ (x : List Step). (records app r ∷ x) ++ behind) (snaps_each-append app front rest)
+    ∙ append_assoc (records app r ∷ snaps_each app front) (snaps_each app rest) behind
+
+-- they write nothing, and then what the others do
+pub written_by-added : (app : Name) (r : Recording) (ss : List Snapshot) (behind : List Step) → written_by ((records app r ∷ snaps_each app ss) ++ behind) ≡ written_by behind
+written_by-added app r ss behind = written_by-append (records app r ∷ snaps_each app ss) behind ∙ ap (λ (x : List ℕ). x ++ written_by behind) (written_by-snaps app ss)
 
 module _ (t : Terms) where
   pub Cut-none : (openings : Histories) (at : Place) → Cut t openings at [] []
@@ -69,28 +89,28 @@ module _ (t : Terms) where
       written = subst (Appends u w) (sym (written_by-append x.steps y.steps)) (appends_then u v w (written_by x.steps) (written_by y.steps) x.written y.written);
     }
 
-    pub came_ended : (L : Histories → Type 0) (w : Option (List ℕ)) (end : End) → Ended t (mid x.state) L v w end → Ended t at L u w end
+    pub came_ended : (L : Contents → Type 0) (w : Option (List ℕ)) (end : End) → Ended t (mid x.state) L v w end → Ended t at L u w end
     came_ended L w end y = record {
       steps = x.steps ++ y.steps;
-      histories = y.histories;
+      contents = y.contents;
       held = y.held;
       run = λ σ. Goes-run t.rules t.options σ.openings (at σ) (mid x.state σ) x.steps (record { steps = y.steps; end = end }) (x.goes σ) (y.run σ);
-      made = λ σ. left_by-append x.steps y.steps (at σ).histories ∙ ap (left_by y.steps) (x.goes σ).left ∙ y.made σ;
+      made = λ σ. left_by-append x.steps y.steps (at σ).contents ∙ ap (left_by y.steps) (x.goes σ).left ∙ y.made σ;
       written = subst (Appends u w) (sym (written_by-append x.steps y.steps)) (appends_then u v w (written_by x.steps) (written_by y.steps) x.written y.written);
     }
 
-    pub came_cut : (L : Histories → Type 0) (w : Option (List ℕ)) (front : List ℕ) → CutShort t (mid x.state) L v w front → CutShort t at L u w front
+    pub came_cut : (L : Contents → Type 0) (w : Option (List ℕ)) (front : List ℕ) → CutShort t (mid x.state) L v w front → CutShort t at L u w front
     came_cut L w front y = record {
       done = x.steps ++ y.done;
-      histories = y.histories;
+      contents = y.contents;
       held = y.held;
       cut = λ σ. Cut-after σ.openings (at σ) (mid x.state σ) x.steps y.done front (x.goes σ) (y.cut σ);
-      made = λ σ. left_by-append x.steps y.done (at σ).histories ∙ ap (left_by y.done) (x.goes σ).left ∙ y.made σ;
+      made = λ σ. left_by-append x.steps y.done (at σ).contents ∙ ap (left_by y.done) (x.goes σ).left ∙ y.made σ;
       written = subst (Appends u w) (sym (append_assoc (written_by x.steps) (written_by y.done) front) ∙ ap (λ (t : List ℕ). t ++ front) (sym (written_by-append x.steps y.done)))
           (appends_then u v w (written_by x.steps) (written_by y.done ++ front) x.written y.written);
     }
 
-    pub came_faulted : (f : RunFault) (L : Histories → Type 0) (w : Option (List ℕ)) → Faulted t (mid x.state) f L v w → Faulted t at f L u w
+    pub came_faulted : (f : RunFault) (L : Contents → Type 0) (w : Option (List ℕ)) → Faulted t (mid x.state) f L v w → Faulted t at f L u w
     came_faulted (fault.Refused app leader id recordings code rule) L w y = came_ended L w (Refused app leader id recordings code rule) y
     came_faulted (fault.Turns app turns) L w y = came_ended L w (Turns app turns) y
     came_faulted (fault.Unreadable app id) L w y = came_ended L w (Unreadable app id) y
@@ -102,10 +122,10 @@ module _ (t : Terms) where
   pub stays : (s : State) (prompted : List Name) (pending : List (Name × Name)) (H : State → Type 0) (u : Option (List ℕ)) → H s → Came t (standing s prompted pending) H u u (λ next. standing next prompted pending)
   stays s prompted pending H u held = record { state = s; steps = []; held = held; goes = λ σ. Goes-none t.rules t.options σ.openings (standing s prompted pending σ); written = appends_nothing u }
 
-  pub cut_here : (s : State) (prompted : List Name) (pending : List (Name × Name)) (L : Histories → Type 0) (u : Option (List ℕ)) → L s.histories → CutShort t (standing s prompted pending) L u u []
+  pub cut_here : (s : State) (prompted : List Name) (pending : List (Name × Name)) (L : Contents → Type 0) (u : Option (List ℕ)) → L s.contents → CutShort t (standing s prompted pending) L u u []
   cut_here s prompted pending L u held = record {
     done = [];
-    histories = s.histories;
+    contents = s.contents;
     held = held;
     cut = λ σ. Cut-none σ.openings (standing s prompted pending σ);
     made = λ σ. refl;

@@ -1,7 +1,7 @@
 -- What the parts of a drain leave.
 use Rattle.std.specs.Prelude.{◌≡◌, ℕ, slice_get, Some, None, List, [], ◌∷◌, Option, Result, Ok, Err}
 use Rattle.es_model.specs.declared.declaration.System.{System}
-use Rattle.es_model.specs.History.{Histories}
+use Rattle.es_process.specs.Contents.{Contents}
 use Rattle.es_model.specs.Values.{Name}
 use Rattle.es_expr.specs.Checked.{IsCheckedSystem}
 use Rattle.es_decl.specs.Pairs.{pairs_of}
@@ -35,6 +35,6 @@ IsOnlyPair sys names None = AreApps sys names × (pairs_of sys.pipes ≡ [])
 IsOnlyPair sys names (Some p) = IsPairOf sys names p
 
 -- nobody is prompted any more
-abbrev pub Drains : Terms → State → (State → Type 0) → (Histories → Type 0) → List Name → Option (List ℕ) → Result (Unit {0}) RunFault → Type 0
+abbrev pub Drains : Terms → State → (State → Type 0) → (Contents → Type 0) → List Name → Option (List ℕ) → Result (Unit {0}) RunFault → Type 0
 Drains t s holds left prompted u (Ok x) = Came t (standing s prompted []) holds u u (λ next. standing next [] [])
 Drains t s holds left prompted u (Err f) = Faulted t (standing s prompted []) f left u u

@@ -1,20 +1,23 @@
 -- When a history follows its opening: each later recording is what its cause decides over the recordings before it.
-use Rattle.std.specs.Prelude.{◌≡◌, ◌≤◌, ◌+◌, ℕ, List, [], ◌∷◌, ◌++◌, length, Contains, Option, IfSome}
+use Rattle.std.specs.Prelude.{◌≡◌, ◌≤◌, ◌+◌, ℕ, List, [], ◌∷◌, ◌++◌, length, Contains, IfSome}
 use Rattle.es_model.specs.declared.event.Recording.{Recording}
 use Rattle.es_model.specs.declared.event.Cause.{Cause}
 use Rattle.es_model.specs.declared.event.Cause.TheVariants.{Command, Notification}
 use Rattle.es_model.specs.History.{log, latest}
 use Rattle.es_model.specs.Tracking.{tracked_in}
-use Rattle.es_model.specs.Values.{Name, Id}
+use Rattle.es_model.specs.Values.{Name}
+use Rattle.es_domain.specs.declared.command.Command.{Command as CommandOf}
+use Rattle.es_lines.specs.CommandText.{command_text}
+use Rattle.es_lines.specs.Requests.{asks}
+use Rattle.es_lines.specs.declared.request.Request.TheVariants.{Do}
 use Rattle.es_process.specs.Decision.{Rules, Logs, events}
-use Rattle.es_process.specs.Requests.{command}
 
 -- a text is the canonical text of a command for an application, and the version that it expects, where it expects one, is the latest over the recordings before
 pub record IsAsked (rules : Rules) (app : Name) (before : List Recording) (asked : List ℕ) : Type 0 where
-  pub id : Id
-  pub expect : Option ℕ
-  pub asks : rules.request asked ≡ command app asked id expect
-  pub expected : IfSome expect (λ version. version ≡ latest (log before) id)
+  pub command : CommandOf
+  pub is_asked : rules.request asked ≡ asks (Do app command)
+  pub canonical : asked ≡ command_text app command
+  pub expected : IfSome command.expect (λ version. version ≡ latest (log before) command.id)
 
 -- a notification of a leader of the application is the next one that isn't tracked, and is there
 pub record IsNotified (rules : Rules) (app : Name) (before : List Recording) (logs : Logs) (leader : Name) (id : ℕ) : Type 0 where

@@ -1,6 +1,7 @@
 pub mod Answer
 pub mod Applications
 pub mod Consistent
+pub mod Contents
 pub mod Decision
 pub mod Drains
 pub mod Faults
@@ -8,7 +9,6 @@ pub mod Follows
 pub mod Leaves
 pub mod Questions
 pub mod Reached
-pub mod Requests
 pub mod Session
 pub mod SingleThread
 pub mod Standing

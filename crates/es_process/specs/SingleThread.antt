@@ -5,24 +5,57 @@ use Rattle.std.specs.List.{list_any}
 use Rattle.std.specs.Str.{bytes_eq}
 use Rattle.es_model.specs.declared.event.StoredEvent.{StoredEvent}
 use Rattle.es_model.specs.declared.event.Recording.{Recording}
-use Rattle.es_model.specs.History.{Histories, log, latest}
+use Rattle.es_model.specs.declared.snapshot.Snapshot.{Snapshot}
+use Rattle.es_model.specs.History.{Histories, log}
 use Rattle.es_model.specs.Lines.{Line, text, long, over}
 use Rattle.es_model.specs.Tracking.{tracked_in}
 use Rattle.es_model.specs.Values.{Name}
 use Rattle.es_io.specs.Readings.{Readings, first_reading, later_readings}
 use Rattle.es_recorder.specs.Held.{put}
+use Rattle.es_lines.specs.Requests.{Asked, asks, refused}
+use Rattle.es_lines.specs.declared.request.Request.{Request}
+use Rattle.es_lines.specs.declared.request.Request.TheVariants as request
 use Rattle.es_lines.specs.declared.replies.Reply.{Reply}
-use Rattle.es_lines.specs.declared.replies.Reply.TheVariants.{Long, Conflict, Sync, Stop}
+use Rattle.es_lines.specs.declared.replies.Reply.TheVariants.{Long, Sync, Stop}
 use Rattle.es_lines.specs.declared.ends.End.{End}
 use Rattle.es_lines.specs.declared.ends.End.TheVariants.{Ok, Over}
-use Rattle.es_process.specs.Answer.{Options, Answer, says, accepts, ends, answer, differs, Followed, adds, stops, followed}
+use Rattle.es_process.specs.Answer.{Options, Answer, says, accepts, takes, ends, request_answer, takes_reading, Followed, adds, stops, followed}
+use Rattle.es_process.specs.Contents.{Contents, recorded, snapped, added}
 use Rattle.es_process.specs.Decision.{Rules, logs_of}
-use Rattle.es_process.specs.Requests.{Request, command, question, sync, stop, no_request}
+use Rattle.es_process.specs.Questions.{reply_to}
 use Rattle.es_lines.specs.Texts.{reply_text}
 
--- where a run stands: the histories, the readings to come, how many notifications each follower has recorded in this run, the leaders that are prompted, the pairs of the last leader taken that are still to be tried, the lines to come, and how many were answered
+-- one step of a run: a recording is added to an application's history, or a snapshot is put beside it, or a text is written as a line
+pub data Step : Type 0 where
+  records : Name → Recording → Step
+  snaps : Name → Snapshot → Step
+  writes : List ℕ → Step
+
+-- a text as a line
+abbrev pub as_line : List ℕ → List ℕ
+as_line t = t ++ 10 ∷ []
+
+-- what steps leave of what the applications keep
+abbrev pub left_by : List Step → Contents → Contents
+left_by [] c = c
+left_by (records app r ∷ steps) c = left_by steps (recorded c app r)
+left_by (snaps app s ∷ steps) c = left_by steps (snapped c app s)
+left_by (writes t ∷ steps) c = left_by steps c
+
+-- the bytes that steps write
+abbrev pub written_by : List Step → List ℕ
+written_by [] = []
+written_by (records app r ∷ steps) = written_by steps
+written_by (snaps app s ∷ steps) = written_by steps
+written_by (writes t ∷ steps) = as_line t ++ written_by steps
+
+abbrev pub snaps_each : Name → List Snapshot → List Step
+snaps_each app [] = []
+snaps_each app (s ∷ ss) = snaps app s ∷ snaps_each app ss
+
+-- where a run stands: what the applications keep, the readings to come, how many notifications each follower has recorded in this run, the leaders that are prompted, the pairs of the last leader taken that are still to be tried, the lines to come, and how many were answered
 pub record Place : Type 0 where
-  pub histories : Histories
+  pub contents : Contents
   pub readings : Readings
   pub used : Name → ℕ
   pub prompted : List Name
@@ -30,9 +63,9 @@ pub record Place : Type 0 where
   pub lines : List Line
   pub answered : ℕ
 
--- what one turn does: it adds recordings first, and then says at most one reply
+-- what one turn does: first these changes of what the applications keep, and then it says at most one reply
 pub record Outcome : Type 0 where
-  pub added : List (Name × Recording)
+  pub changes : List Step
   pub reply : Option Reply
 
 -- one turn: the run ends, or something is done and it goes on
@@ -49,39 +82,54 @@ abbrev pub past_line : Place → List Line → Place
 past_line at lines = record at { lines = lines; answered = at.answered + 1 }
 
 abbrev pub only_says : Reply → Outcome
-only_says reply = record { added = []; reply = Some reply }
+only_says reply = record { changes = []; reply = Some reply }
 
-abbrev pub only_adds : Name → Recording → Outcome
-only_adds app r = record { added = (app, r) ∷ []; reply = None }
+-- a recording, and the snapshots that are due after it
+abbrev pub only_adds : Name → Recording → List Snapshot → Outcome
+only_adds app r ss = record { changes = records app r ∷ snaps_each app ss; reply = None }
 
 abbrev pub does_nothing : Outcome
-does_nothing = record { added = []; reply = None }
+does_nothing = record { changes = []; reply = None }
 
--- the turn that answers a command; it takes one reading of the clock where the run goes on; an accepted one prompts its application
-abbrev pub command_turn : Place → List Line → Name → Answer → Turn
-command_turn at lines app (says reply) = goes_on (only_says reply) (record (past_line at lines) { readings = later_readings at.readings })
-command_turn at lines app (accepts r reply) =
-    goes_on (record { added = (app, r) ∷ []; reply = Some reply })
-    (record (past_line at lines) { histories = put at.histories app (at.histories app ++ r ∷ []); readings = later_readings at.readings; prompted = app ∷ [] })
-command_turn at lines app (ends end) = finished end
+abbrev pub adds_and_says : Name → Recording → List Snapshot → Reply → Outcome
+adds_and_says app r ss reply = record { changes = records app r ∷ snaps_each app ss; reply = Some reply }
+
+abbrev pub snaps_and_says : Name → Snapshot → Reply → Outcome
+snaps_and_says app s reply = record { changes = snaps app s ∷ []; reply = Some reply }
+
+-- the turn that gives an application's answer, after which these readings are to come; an accepted command prompts its application
+abbrev pub answer_turn : Place → List Line → Name → Readings → Answer → Turn
+answer_turn at lines app readings (says reply) = goes_on (only_says reply) (record (past_line at lines) { readings = readings })
+answer_turn at lines app readings (accepts r ss reply) =
+    goes_on (adds_and_says app r ss reply) (record (past_line at lines) { contents = added at.contents app r ss; readings = readings; prompted = app ∷ [] })
+answer_turn at lines app readings (takes s reply) =
+    goes_on (snaps_and_says app s reply) (record (past_line at lines) { contents = snapped at.contents app s; readings = readings })
+answer_turn at lines app readings (ends end) = finished end
+
+abbrev pub readings_after : Bool → Readings → Readings
+readings_after taken readings = if taken then later_readings readings else readings
+
+-- the turn of a line that asks something of an application
+abbrev pub app_turn : Rules → Options → Place → List Line → Name → Request → Turn
+app_turn rules options at lines app r =
+    answer_turn at lines app (readings_after (takes_reading (at.contents.histories app) r) at.readings)
+    (request_answer rules options.capacity app (at.contents.histories app) (at.contents.snapshots app) (logs_of at.contents.histories) r (first_reading at.readings))
 
 -- the turn of a line with a text
-abbrev pub request_turn : Rules → Options → Place → List Line → Request → Turn
-request_turn rules options at lines (no_request told) = goes_on (only_says told) (past_line at lines)
-request_turn rules options at lines (question app reply) = goes_on (only_says (reply (at.histories app))) (past_line at lines)
-request_turn rules options at lines sync = goes_on (only_says Sync) (past_line at lines)
-request_turn rules options at lines stop = goes_on (only_says Stop) (past_line at lines)
-request_turn rules options at lines (command app asked id expect) =
-    if differs (at.histories app) id expect then goes_on (only_says (Conflict (latest (log (at.histories app)) id))) (past_line at lines) else
-    command_turn at lines app (answer rules options.capacity app (at.histories app) (logs_of at.histories) asked id expect (first_reading at.readings))
+abbrev pub request_turn : Rules → Options → Place → List Line → Asked → Turn
+request_turn rules options at lines (refused fault) = goes_on (only_says (reply_to fault)) (past_line at lines)
+request_turn rules options at lines (asks request.Sync) = goes_on (only_says Sync) (past_line at lines)
+request_turn rules options at lines (asks request.Stop) = goes_on (only_says Stop) (past_line at lines)
+request_turn rules options at lines (asks (request.Do app c)) = app_turn rules options at lines app (request.Do app c)
+request_turn rules options at lines (asks (request.Get app id version)) = app_turn rules options at lines app (request.Get app id version)
+request_turn rules options at lines (asks (request.Log app section)) = app_turn rules options at lines app (request.Log app section)
+request_turn rules options at lines (asks (request.Tracking app leader)) = app_turn rules options at lines app (request.Tracking app leader)
+request_turn rules options at lines (asks (request.Snapshot app id)) = app_turn rules options at lines app (request.Snapshot app id)
 
 -- a line asks that no further line is answered
-abbrev pub is_stop : Request → Bool
-is_stop stop = true
-is_stop sync = false
-is_stop (no_request told) = false
-is_stop (question app reply) = false
-is_stop (command app asked id expect) = false
+abbrev pub is_stop : Asked → Bool
+is_stop (asks request.Stop) = true
+is_stop a = false
 
 abbrev pub stops_lines : Rules → Line → Bool
 stops_lines rules (text t) = is_stop (rules.request t)
@@ -95,7 +143,7 @@ up_to_stop rules (line ∷ lines) = line ∷ (if stops_lines rules line then [] 
 
 -- the turn of the next line
 abbrev pub line_turn : Rules → Options → Histories → Place → List Line → Turn
-line_turn rules options openings at [] = finished (Ok (added_counts rules.names openings at.histories) at.answered)
+line_turn rules options openings at [] = finished (Ok (added_counts rules.names openings at.contents.histories) at.answered)
 line_turn rules options openings at (over ∷ lines) = finished Over
 line_turn rules options openings at (long ∷ lines) = goes_on (only_says Long) (past_line at lines)
 line_turn rules options openings at (text t ∷ lines) = request_turn rules options at lines (rules.request t)
@@ -121,20 +169,20 @@ prompt pairs prompted app (e ∷ es) = if is_among app (leaders_of pairs) && not
 -- the turn that records a notification; it takes one reading of the clock where the run goes on
 abbrev pub followed_turn : Rules → Place → Name → Followed → Turn
 followed_turn rules at app (stops end) = finished end
-followed_turn rules at app (adds r) =
-    goes_on (only_adds app r)
-    (record at { histories = put at.histories app (at.histories app ++ r ∷ []); readings = later_readings at.readings; used = put at.used app (at.used app + 1); prompted = prompt rules.pairs at.prompted app r.events })
+followed_turn rules at app (adds r ss) =
+    goes_on (only_adds app r ss)
+    (record at { contents = added at.contents app r ss; readings = later_readings at.readings; used = put at.used app (at.used app + 1); prompted = prompt rules.pairs at.prompted app r.events })
 
 -- the turn of a pair whose follower has its next notification here, or has none to come
 abbrev pub next_turn : Rules → Options → Place → Name → Name → List (Name × Name) → Option StoredEvent → Turn
 next_turn rules options at leader app rest None = goes_on does_nothing (record at { pending = rest })
 next_turn rules options at leader app rest (Some e) =
-    followed_turn rules at app (followed rules options app (at.histories app) (at.used app) (logs_of at.histories) leader (tracked_in (at.histories app) leader + 1) (first_reading at.readings))
+    followed_turn rules at app (followed rules options app (at.contents.histories app) (at.used app) (logs_of at.contents.histories) leader (tracked_in (at.contents.histories app) leader + 1) (first_reading at.readings))
 
 -- the turn of a pair that is to be tried
 abbrev pub pair_turn : Rules → Options → Place → Name → Name → List (Name × Name) → Turn
 pair_turn rules options at leader app rest =
-    next_turn rules options at leader app rest (slice_get (log (at.histories leader)) (tracked_in (at.histories app) leader))
+    next_turn rules options at leader app rest (slice_get (log (at.contents.histories leader)) (tracked_in (at.contents.histories app) leader))
 
 -- the next turn: a pair that is to be tried, else the first leader that is prompted, else the next line
 abbrev pub turn_of : Rules → Options → Histories → Place → List (Name × Name) → List Name → Turn
@@ -145,11 +193,6 @@ turn_of rules options openings at [] [] = line_turn rules options openings at at
 abbrev pub turn_at : Rules → Options → Histories → Place → Turn
 turn_at rules options openings at = turn_of rules options openings at at.pending at.prompted
 
--- one step of a run: a recording is added to an application's history, or a text is written as a line
-pub data Step : Type 0 where
-  records : Name → Recording → Step
-  writes : List ℕ → Step
-
 -- a run: its steps, and how it ends
 pub record Run : Type 0 where
   pub steps : List Step
@@ -159,13 +202,9 @@ abbrev pub writes_of : Option Reply → List Step
 writes_of None = []
 writes_of (Some reply) = writes (reply_text reply) ∷ []
 
-abbrev pub records_of : List (Name × Recording) → List Step
-records_of [] = []
-records_of (x ∷ xs) = records x.0 x.1 ∷ records_of xs
-
--- the steps of a turn: its recordings, and then its reply
+-- the steps of a turn: its changes, and then its reply
 abbrev pub steps_of : Outcome → List Step
-steps_of outcome = records_of outcome.added ++ writes_of outcome.reply
+steps_of outcome = outcome.changes ++ writes_of outcome.reply
 
 -- a run with these steps before its own
 abbrev pub after : List Step → Run → Run
@@ -192,9 +231,9 @@ pub record HasOneRun (rules : Rules) (options : Options) (openings : Histories) 
   pub only : (other : Run) → IsRun rules options openings at other → other ≡ run
 
 -- where a run begins: with a drain, in which all leaders are prompted; no follower may be ahead of its leader at the opening, as none is over empty histories
-abbrev pub start : Rules → Histories → Readings → List Line → Place
-start rules openings readings lines = record {
-  histories = openings;
+abbrev pub start : Rules → Contents → Readings → List Line → Place
+start rules opening readings lines = record {
+  contents = opening;
   readings = readings;
   used = λ app. 0;
   prompted = leaders_of rules.pairs;
@@ -203,24 +242,8 @@ start rules openings readings lines = record {
   answered = 0;
 }
 
--- a text as a line
-abbrev pub as_line : List ℕ → List ℕ
-as_line t = t ++ 10 ∷ []
-
--- the histories that steps leave
-abbrev pub left_by : List Step → Histories → Histories
-left_by [] h = h
-left_by (records app r ∷ steps) h = left_by steps (put h app (h app ++ r ∷ []))
-left_by (writes t ∷ steps) h = left_by steps h
-
--- the bytes that steps write
-abbrev pub written_by : List Step → List ℕ
-written_by [] = []
-written_by (records app r ∷ steps) = written_by steps
-written_by (writes t ∷ steps) = as_line t ++ written_by steps
-
 -- from a place the run goes through these steps to another place, by so many turns
 pub record Goes (rules : Rules) (options : Options) (openings : Histories) (at now : Place) (steps : List Step) : Type 0 where
   pub turns : ℕ
   pub go : (k : ℕ) → run_within (turns + k) rules options openings at ≡ option_map (after steps) (run_within k rules options openings now)
-  pub left : left_by steps at.histories ≡ now.histories
+  pub left : left_by steps at.contents ≡ now.contents

@@ -16,18 +16,20 @@ use Rattle.es_process.specs.declared.faults.RunFault.{RunFault}
 use Rattle.es_process.specs.declared.faults.RunFault.TheVariants as fault
 use Rattle.es_process.specs.Answer.{Options}
 use Rattle.es_process.specs.Faults.{ByFault}
-use Rattle.es_process.specs.SingleThread.{is_among, Place, Step, records, writes, Run, IsRun, Goes, left_by, written_by, as_line}
+use Rattle.es_process.specs.Contents.{Contents}
+use Rattle.es_process.specs.SingleThread.{is_among, Place, Step, records, snaps, writes, Run, IsRun, Goes, left_by, written_by, as_line}
 use Rattle.es_process.specs.Terms.{Terms}
 
--- what the applications and the clock hold: the histories, the readings to come, and how many notifications each application has recorded in this run
+-- what the applications and the clock hold: what the applications keep, the readings to come, and how many notifications each application has recorded in this run
 pub record State : Type 0 where
-  pub histories : Histories
+  pub contents : Contents
   pub readings : Readings
   pub used : Name → ℕ
 
 -- an application tells what the state has of it, and has the limits of the run
-pub record HoldsOne {R : Type 0} (history : R → Option (List Recording)) (capacity : R → ℕ) (options : Options) (a : Application R) (s : State) : Type 0 where
-  pub told : history a.recorder ≡ Some (s.histories a.name)
+pub record HoldsOne {R : Type 0} (history : R → Option (List Recording)) (snapshots : R → Option (List Snapshot)) (capacity : R → ℕ) (options : Options) (a : Application R) (s : State) : Type 0 where
+  pub told : history a.recorder ≡ Some (s.contents.histories a.name)
+  pub told_snapshots : snapshots a.recorder ≡ Some (s.contents.snapshots a.name)
   pub room : capacity a.recorder ≡ options.capacity
   pub turns : a.turns ≡ options.turns
   pub counted : a.used ≡ s.used a.name
@@ -35,24 +37,30 @@ pub record HoldsOne {R : Type 0} (history : R → Option (List Recording)) (capa
 abbrev pub names_in : {R : Type 0} → List (Application R) → List Name
 names_in apps = map (λ a. a.name) apps
 
--- the snapshots of each application, where they are told
-abbrev pub snapshots_in : {R : Type 0} → (R → Option (List Snapshot)) → List (Application R) → List (Option (List Snapshot))
-snapshots_in snapshots apps = map (λ a. snapshots a.recorder) apps
-
--- histories are these but at the applications
-abbrev pub AreElsewhere : {R : Type 0} → Histories → List (Application R) → Histories → Type 0
+-- something is this but at the applications
+abbrev pub AreElsewhere : {A R : Type 0} → (Name → A) → List (Application R) → (Name → A) → Type 0
 AreElsewhere base apps h = (n : Name) → is_among n (names_in apps) ≡ false → h n ≡ base n
 
--- the applications and the clock tell this state, and elsewhere the histories are as at the opening
-pub record Holds {R : Type 0} (history : R → Option (List Recording)) (capacity : R → ℕ) (base : Histories) (options : Options) (apps : List (Application R)) (readings : Option Readings) (s : State) : Type 0 where
-  pub each : (i : ℕ) (a : Application R) → slice_get apps i ≡ Some a → HoldsOne history capacity options a s
-  pub clock : readings ≡ Some s.readings
-  pub elsewhere : AreElsewhere base apps s.histories
+-- elsewhere than at the applications all is kept as at the opening
+pub record IsKeptElsewhere {R : Type 0} (base : Contents) (apps : List (Application R)) (c : Contents) : Type 0 where
+  pub histories : AreElsewhere base.histories apps c.histories
+  pub snapshots : AreElsewhere base.snapshots apps c.snapshots
 
--- the applications tell these histories, and elsewhere they are as at the opening
-pub record HoldHistories {R : Type 0} (history : R → Option (List Recording)) (base : Histories) (apps : List (Application R)) (h : Histories) : Type 0 where
-  pub each : (i : ℕ) (a : Application R) → slice_get apps i ≡ Some a → history a.recorder ≡ Some (h a.name)
-  pub elsewhere : AreElsewhere base apps h
+-- the applications and the clock tell this state, and elsewhere all is as at the opening
+pub record Holds {R : Type 0} (history : R → Option (List Recording)) (snapshots : R → Option (List Snapshot)) (capacity : R → ℕ) (base : Contents) (options : Options) (apps : List (Application R)) (readings : Option Readings) (s : State) : Type 0 where
+  pub each : (i : ℕ) (a : Application R) → slice_get apps i ≡ Some a → HoldsOne history snapshots capacity options a s
+  pub clock : readings ≡ Some s.readings
+  pub elsewhere : IsKeptElsewhere base apps s.contents
+
+-- an application tells what is kept of it
+pub record TellsContents {R : Type 0} (history : R → Option (List Recording)) (snapshots : R → Option (List Snapshot)) (a : Application R) (c : Contents) : Type 0 where
+  pub told : history a.recorder ≡ Some (c.histories a.name)
+  pub told_snapshots : snapshots a.recorder ≡ Some (c.snapshots a.name)
+
+-- the applications tell what they keep, and elsewhere all is as at the opening
+pub record HoldContents {R : Type 0} (history : R → Option (List Recording)) (snapshots : R → Option (List Snapshot)) (base : Contents) (apps : List (Application R)) (c : Contents) : Type 0 where
+  pub each : (i : ℕ) (a : Application R) → slice_get apps i ≡ Some a → TellsContents history snapshots a c
+  pub elsewhere : IsKeptElsewhere base apps c
 
 -- the names of the applications are different
 abbrev pub AreDistinct : List Name → Type 0
@@ -72,18 +80,18 @@ pub record IsSmall (n : Notification) : Type 0 where
 abbrev pub MayFailToRead : RunFault → Type 0
 MayFailToRead f = (f ≡ fault.Recorder) ⊎ (f ≡ fault.NoMemory)
 
--- what every call leaves of an application: its name, its limits and its snapshots; no count of faults falls
-pub record Stays {R : Type 0} (capacity : R → ℕ) (snapshots : R → Option (List Snapshot)) (faults : R → ℕ) (old new : Application R) : Type 0 where
+-- what every call leaves of an application: its name and its limits; no count of faults falls
+pub record Stays {R : Type 0} (capacity : R → ℕ) (faults : R → ℕ) (old new : Application R) : Type 0 where
   pub name : new.name ≡ old.name
   pub turns : new.turns ≡ old.turns
   pub room : capacity new.recorder ≡ capacity old.recorder
-  pub kept : snapshots new.recorder ≡ snapshots old.recorder
   pub later : faults old.recorder ≤ faults new.recorder
 
 -- and all else that it holds
 pub record IsSame {R : Type 0} (history : R → Option (List Recording)) (capacity : R → ℕ) (snapshots : R → Option (List Snapshot)) (faults : R → ℕ) (old new : Application R) : Type 0 where
-  pub stays : Stays capacity snapshots faults old new
+  pub stays : Stays capacity faults old new
   pub told : history new.recorder ≡ history old.recorder
+  pub kept : snapshots new.recorder ≡ snapshots old.recorder
   pub used : new.used ≡ old.used
 
 -- how often the recorder of the application at a place has failed
@@ -98,10 +106,9 @@ faults_at faults apps i = count_of faults (slice_get apps i)
 abbrev pub Later : {R : Type 0} → (R → ℕ) → List (Application R) → List (Application R) → Type 0
 Later faults old new = (i : ℕ) → faults_at faults old i ≤ faults_at faults new i
 
--- what every call leaves of some applications: their names and their snapshots; no count of faults falls
-pub record AllStay {R : Type 0} (snapshots : R → Option (List Snapshot)) (faults : R → ℕ) (old new : List (Application R)) : Type 0 where
+-- what every call leaves of some applications: their names; no count of faults falls
+pub record AllStay {R : Type 0} (faults : R → ℕ) (old new : List (Application R)) : Type 0 where
   pub names : names_in new ≡ names_in old
-  pub kept : snapshots_in snapshots new ≡ snapshots_in snapshots old
   pub later : Later faults old new
 
 -- one of them has risen
@@ -111,7 +118,7 @@ SomeRose faults old new = (i : ℕ) × Rose (faults_at faults old i) (faults_at 
 -- the place of a run with this state
 abbrev pub stand : State → List Name → List (Name × Name) → List Line → ℕ → Place
 stand s prompted pending lines answered = record {
-  histories = s.histories;
+  contents = s.contents;
   readings = s.readings;
   used = s.used;
   prompted = prompted;
@@ -137,6 +144,7 @@ standing s prompted pending = λ σ. stand s prompted pending σ.lines σ.answer
 abbrev pub IsFrontOf : List ℕ → List Step → Type 0
 IsFrontOf front [] = front ≡ []
 IsFrontOf front (records app r ∷ rest) = front ≡ []
+IsFrontOf front (snaps app s ∷ rest) = front ≡ []
 IsFrontOf front (writes t ∷ rest) = (more : List ℕ) × (as_line t ≡ front ++ more)
 
 -- some steps are the first of all, and these bytes a front of the next one's text
@@ -157,28 +165,28 @@ pub record Came (t : Terms) (at : Places) (holds : State → Type 0) (before now
   pub goes : (σ : Setting) → Goes t.rules t.options σ.openings (at σ) (next state σ) steps
   pub written : Appends before now (written_by steps)
 
--- from this place the run came to its end: all its steps were made, and the histories are what they leave
-pub record Ended (t : Terms) (at : Places) (left : Histories → Type 0) (before now : Option (List ℕ)) (end : End) : Type 0 where
+-- from this place the run came to its end: all its steps were made, and the applications keep what these leave
+pub record Ended (t : Terms) (at : Places) (left : Contents → Type 0) (before now : Option (List ℕ)) (end : End) : Type 0 where
   pub steps : List Step
-  pub histories : Histories
-  pub held : left histories
+  pub contents : Contents
+  pub held : left contents
   pub run : (σ : Setting) → IsRun t.rules t.options σ.openings (at σ) (record { steps = steps; end = end })
-  pub made : (σ : Setting) → left_by steps (at σ).histories ≡ histories
+  pub made : (σ : Setting) → left_by steps (at σ).contents ≡ contents
   pub written : Appends before now (written_by steps)
 
 -- from this place the run was cut short: its first steps were made, and this front of the next text was written besides
-pub record CutShort (t : Terms) (at : Places) (left : Histories → Type 0) (before now : Option (List ℕ)) (front : List ℕ) : Type 0 where
+pub record CutShort (t : Terms) (at : Places) (left : Contents → Type 0) (before now : Option (List ℕ)) (front : List ℕ) : Type 0 where
   pub done : List Step
-  pub histories : Histories
-  pub held : left histories
+  pub contents : Contents
+  pub held : left contents
   pub cut : (σ : Setting) → Cut t σ.openings (at σ) done front
-  pub made : (σ : Setting) → left_by done (at σ).histories ≡ histories
+  pub made : (σ : Setting) → left_by done (at σ).contents ≡ contents
   pub written : Appends before now (written_by done ++ front)
 
 -- the same with some front
-abbrev pub CutInText : Terms → Places → (Histories → Type 0) → Option (List ℕ) → Option (List ℕ) → Type 0
+abbrev pub CutInText : Terms → Places → (Contents → Type 0) → Option (List ℕ) → Option (List ℕ) → Type 0
 CutInText t at left before now = (front : List ℕ) × CutShort t at left before now front
 
 -- what a fault of a part of a run leaves; no part of a text was written
-abbrev pub Faulted : Terms → Places → RunFault → (Histories → Type 0) → Option (List ℕ) → Option (List ℕ) → Type 0
+abbrev pub Faulted : Terms → Places → RunFault → (Contents → Type 0) → Option (List ℕ) → Option (List ℕ) → Type 0
 Faulted t at f left before now = ByFault f (λ end. Ended t at left before now end) (CutShort t at left before now []) (CutShort t at left before now [])

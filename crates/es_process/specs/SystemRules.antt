@@ -1,5 +1,6 @@
 -- The rules of a declared system.
 use Rattle.std.specs.Prelude.{ℕ, ℤ, ◌-◌, List, [], ◌∷◌, map, slice_get, Option, None, Some}
+use Rattle.es_model.specs.History.{log}
 use Rattle.es_model.specs.Rising.{with_item}
 use Rattle.es_model.specs.Values.{Name}
 use Rattle.es_model.specs.declared.declaration.System.{System}
@@ -14,16 +15,12 @@ use Rattle.es_domain.specs.Decision.{notice}
 use Rattle.es_repo.specs.Verdicts.{command_verdict, policy_verdict}
 use Rattle.es_repo.specs.declared.verdict.Verdict.{Verdict}
 use Rattle.es_repo.specs.declared.verdict.Verdict.TheVariants as verdict
-use Rattle.es_lines.specs.CommandText.{command_text}
+use Rattle.es_repo.specs.Readings.{reading_at}
+use Rattle.es_repo.specs.Snapshots.{snapshot_of, due_after}
 use Rattle.es_lines.specs.Requests.{Asked, asks, refused as not_asked, request_in}
-use Rattle.es_lines.specs.declared.request.Request.TheVariants.{Do, Get, Log, Tracking, Sync, Stop}
-use Rattle.es_lines.specs.declared.fault.LineFault.{LineFault}
-use Rattle.es_lines.specs.declared.fault.LineFault.TheVariants as line_fault
-use Rattle.es_lines.specs.declared.replies.Reply.{Reply}
-use Rattle.es_lines.specs.declared.replies.Reply.TheVariants as reply
+use Rattle.es_lines.specs.declared.request.Request.TheVariants.{Do, Get, Log, Tracking, Snapshot, Sync, Stop}
 use Rattle.es_process.specs.Decision.{Rules, Logs, Decision, events, refused, unreadable}
-use Rattle.es_process.specs.Questions.{get_reply, log_reply, tracking_reply}
-use Rattle.es_process.specs.Requests.{Request, command, question, sync, stop, no_request}
+use Rattle.es_process.specs.Questions.{section_size}
 
 -- something for each of some names, in byte order of the names
 abbrev pub in_order : {A : Type 0} → (Name → A) → List Name → List (Name × A)
@@ -49,6 +46,7 @@ decide_asked sys app before at (asks (Do other c)) = decision_of app (command_ve
 decide_asked sys app before at (asks (Get other id version)) = refused [] 0
 decide_asked sys app before at (asks (Log other section)) = refused [] 0
 decide_asked sys app before at (asks (Tracking other leader)) = refused [] 0
+decide_asked sys app before at (asks (Snapshot other id)) = refused [] 0
 decide_asked sys app before at (asks Sync) = refused [] 0
 decide_asked sys app before at (asks Stop) = refused [] 0
 decide_asked sys app before at (not_asked fault) = refused [] 0
@@ -67,23 +65,15 @@ abbrev pub decide_cause : System → Name → List Recording → Logs → Cause 
 decide_cause sys app before logs (Command text) at = decide_asked sys app before at (request_in sys text)
 decide_cause sys app before logs (Notification leader id) at = decide_entry sys app before leader id at (slice_get (logs leader) (id - 1))
 
--- the reply to a line that asks nothing; want of memory is no reason that a line has
-abbrev pub reply_to : LineFault → Reply
-reply_to line_fault.Syntax = reply.Syntax
-reply_to line_fault.Unknown = reply.Unknown
-reply_to line_fault.Kind = reply.Kind
-reply_to line_fault.NoMemory = reply.Syntax
-
--- a command is kept as its canonical text
-abbrev pub request_of : System → Asked → Request
-request_of sys (asks (Do app c)) = command app (command_text app c) c.id c.expect
-request_of sys (asks (Get app id version)) = question app (get_reply sys app id version)
-request_of sys (asks (Log app section)) = question app (log_reply sys app section)
-request_of sys (asks (Tracking app leader)) = question app (tracking_reply leader)
-request_of sys (asks Sync) = sync
-request_of sys (asks Stop) = stop
-request_of sys (not_asked fault) = no_request (reply_to fault)
-
 -- the rules of a system
 abbrev pub rules_of : System → Rules
-rules_of sys = record { names = names_of sys; pairs = pairs_of sys.pipes; request = λ line. request_of sys (request_in sys line); decide = decide_cause sys }
+rules_of sys = record {
+  names = names_of sys;
+  pairs = pairs_of sys.pipes;
+  request = request_in sys;
+  read = λ h id version. reading_at sys (log h) id version;
+  section_size = section_size sys;
+  snapshot = snapshot_of sys;
+  due = λ h e. due_after sys (log h) e;
+  decide = decide_cause sys;
+}

@@ -1,6 +1,7 @@
 //! One application over its recorder: what it makes of a command, and of a leader's notification.
-ghost use Rattle.std.specs.Prelude.{◌≡◌, ◌⊎◌, ◌≤◌, ◌<◌, ◌^◌, ◌-◌, ◌+◌, List, Some, None, All, IsTrue, is_some, OnOk, OnErr, IfOk, IfErr, IsErrOf, IfSome, length, slice_get};
+ghost use Rattle.std.specs.Prelude.{◌≡◌, ◌⊎◌, ◌≤◌, ◌<◌, ◌^◌, ◌+◌, List, [], not, Some, None, All, IsTrue, is_some, OnOk, OnErr, IfOk, IfErr, IsErrOf, IfSome, length};
 ghost use Rattle.es_model.specs.declared.event.Recording.{Recording};
+ghost use Rattle.es_model.specs.declared.snapshot.Snapshot.{Snapshot};
 ghost use Rattle.es_model.specs.Causes.{CallHasCause, Rose};
 ghost use Rattle.es_model.specs.Declaration.{app_named};
 ghost use Rattle.es_model.specs.History.{log, latest};
@@ -12,14 +13,18 @@ ghost use Rattle.es_domain.specs.Decision.{IsNotice, notice};
 ghost use Rattle.es_recorder.specs.Insert.{IsInsertable, first_conflict, too_many};
 ghost use Rattle.es_repo.specs.Verdicts.{command_verdict, policy_verdict, FollowsIn, IsSmallVerdict};
 ghost use Rattle.es_lines.specs.CommandText.{command_text};
-ghost use Rattle.es_lines.specs.Requests.{IsDeclared};
+ghost use Rattle.es_lines.specs.Requests.{IsDeclared, asks, request_in};
+ghost use Rattle.es_lines.specs.declared.request.Request.TheVariants as requests;
 ghost use Rattle.es_repo.specs.declared.verdict.Verdict.TheVariants as verdicts;
 ghost use Rattle.es_process.specs.Applications.{IsOpened, name_of, recorder_of, turns_of, used_of};
-ghost use Rattle.es_process.specs.Answer.{recording_of as recording_at, options, differs, followed, followed_of, accept_unless, answer_of};
+ghost use Rattle.es_model.specs.Snapshots.{IsSmallSnapshot};
+ghost use Rattle.es_repo.specs.Snapshots.{due_after, is_there};
+ghost use Rattle.es_process.specs.Answer.{recording_of as recording_at, options, differs, due_each, with_due, followed, followed_of, accept_unless, answer_of, command_answer, request_answer, snapshot_answer, take_unless, takes_reading, add_unless};
 ghost use Rattle.es_process.specs.Decision.{Logs};
+ghost use Rattle.es_process.specs.SingleThread.{readings_after};
 ghost use Rattle.es_process.specs.SystemRules.{rules_of, decision_of};
-ghost use Rattle.es_process.specs.inner.Adding.{Fits, Adds, Takes, Records, Decides, MayRefuse};
-ghost use Rattle.es_process.specs.Leaves.{MayAsk, MayFailToAdd, Leaves, command_answer, readings_after, request_answer, readings_left, Processes, IsRecorded, Converts};
+ghost use Rattle.es_process.specs.inner.Adding.{Fits, Adds, PutsOne, PutsDue, Takes, Records, Decides, MayRefuse};
+ghost use Rattle.es_process.specs.Leaves.{MayAsk, MayFailToAdd, Leaves, Processes, IsRecorded, Converts, IsEntry};
 ghost use Rattle.es_process.specs.Traced.{Traced};
 ghost use Rattle.es_process.specs.Standing.{IsSame, IsSmall, IsNextAfter, MayFailToRead, Stays};
 
@@ -29,11 +34,13 @@ use es_io::Clock;
 use es_lines::{Reply, Request, command_text};
 use es_mapper::{MapFault, to_domain};
 use es_model::{
-    CallFault, Cause, DomainEvent, Duplicate, Moment, NoMemory, Notification, Recording,
+    CallFault, Cause, DomainEvent, Duplicate, Moment, NoMemory, Notification, Recording, Snapshot,
     StoredEvent, StoredEvents, System, Text,
 };
 use es_recorder::{InsertFault, Inserted, ProcessRecorder};
-use es_repo::{Verdict, judge_command, judge_policy};
+use es_repo::{
+    RepoFault, Repository, Verdict, is_kept, judge_command, judge_policy, snapshot, snapshot_due,
+};
 use std::alloc::Global;
 use uuid::Uuid;
 
@@ -201,7 +208,8 @@ impl<R: ProcessRecorder> Application<R> {
         requires fits { IfSome (R.history (recorder_of self.old)) (λ h. Fits h recording.now) }
         ensures adds { (h : List Recording) → R.history (recorder_of self.old) ≡ Some h → Adds (R.capacity (recorder_of self.old)) (name_of self.old) h recording.now result (R.history (recorder_of self.new)) }
         ensures faults { IfErr result MayFailToAdd }
-        ensures same { Stays R.capacity R.snapshots R.faults self.old self.new }
+        ensures kept { R.snapshots (recorder_of self.new) ≡ R.snapshots (recorder_of self.old) }
+        ensures same { Stays R.capacity R.faults self.old self.new }
         ensures same_used { (used_of self.new) ≡ (used_of self.old) }
         ensures failed { IsErrOf result RunFault.Recorder → Rose (R.faults (recorder_of self.old)) (R.faults (recorder_of self.new)) }
     {
@@ -227,8 +235,62 @@ impl<R: ProcessRecorder> Application<R> {
         }
     }
 
-    /// Answers what a line asks of it. A command adds a recording unless it is refused, and takes one reading of the
-    /// clock unless it expects another version; a question changes nothing.
+    // Puts a snapshot.
+    fn put(&mut self, snapshot: &Snapshot) -> Result<(), RunFault>
+        requires { IsSmallSnapshot snapshot.now }
+        ensures puts { (q : List Snapshot) → R.snapshots (recorder_of self.old) ≡ Some q → PutsOne snapshot.now q result (R.snapshots (recorder_of self.new)) }
+        ensures told { R.history (recorder_of self.new) ≡ R.history (recorder_of self.old) }
+        ensures faults { IfErr result MayFailToRead }
+        ensures same { Stays R.capacity R.faults self.old self.new }
+        ensures same_used { (used_of self.new) ≡ (used_of self.old) }
+        ensures failed { IsErrOf result RunFault.Recorder → Rose (R.faults (recorder_of self.old)) (R.faults (recorder_of self.new)) }
+    {
+        Ok(self.recorder.insert_snapshot(snapshot)?)
+    }
+
+    // Puts the snapshot that is to be taken after an event was saved, if one is.
+    fn put_due(&mut self, alloc: Global, sys: &System, event: &StoredEvent) -> Result<(), RunFault>
+        requires checked { IsCheckedSystem sys.now }
+        ensures puts { (h : List Recording) (q : List Snapshot) → R.history (recorder_of self.old) ≡ Some h → R.snapshots (recorder_of self.old) ≡ Some q
+            → PutsDue (with_due (due_after sys.now (log h) event.now) []) h q result (R.history (recorder_of self.new)) (R.snapshots (recorder_of self.new)) }
+        ensures faults { IfErr result MayFailToRead }
+        ensures same { Stays R.capacity R.faults self.old self.new }
+        ensures same_used { (used_of self.new) ≡ (used_of self.old) }
+        ensures failed { IsErrOf result RunFault.Recorder → Rose (R.faults (recorder_of self.old)) (R.faults (recorder_of self.new)) }
+    {
+        match snapshot_due(alloc, sys, &mut self.recorder, event)? {
+            Some(snapshot) => self.put(&snapshot),
+            None => Ok(()),
+        }
+    }
+
+    // Puts the snapshots that are to be taken after some events were saved.
+    fn put_each_due(
+        &mut self,
+        alloc: Global,
+        sys: &System,
+        events: &[StoredEvent],
+    ) -> Result<(), RunFault>
+        requires checked { IsCheckedSystem sys.now }
+        ensures puts { (h : List Recording) (q : List Snapshot) → R.history (recorder_of self.old) ≡ Some h → R.snapshots (recorder_of self.old) ≡ Some q
+            → PutsDue (due_each (rules_of sys.now) h events.now) h q result (R.history (recorder_of self.new)) (R.snapshots (recorder_of self.new)) }
+        ensures faults { IfErr result MayFailToRead }
+        ensures same { Stays R.capacity R.faults self.old self.new }
+        ensures same_used { (used_of self.new) ≡ (used_of self.old) }
+        ensures failed { IsErrOf result RunFault.Recorder → Rose (R.faults (recorder_of self.old)) (R.faults (recorder_of self.new)) }
+    {
+        for event in events {
+            match self.put_due(alloc, sys, event) {
+                Ok(()) => {}
+                Err(fault) => return Err(fault),
+            }
+        }
+        Ok(())
+    }
+
+    /// Answers what a line asks of it. A command adds a recording unless it is refused, and the snapshots that are due after it,
+    /// and takes one reading of the clock unless it expects another version; a snapshot is put where one is asked for; a question
+    /// changes nothing.
     pub fn answer<C: Clock>(
         &mut self,
         alloc: Global,
@@ -238,10 +300,11 @@ impl<R: ProcessRecorder> Application<R> {
     ) -> Result<Reply, RunFault>
         requires checked { IsCheckedSystem sys.now }
         requires asked { MayAsk sys.now (name_of self.old) request.now }
-        ensures leaves { Traced (C.readings clock.old) (C.readings clock.new) (λ before after. (h : List Recording) (r : Readings) → R.history (recorder_of self.old) ≡ Some h → before ≡ Some r
-            → Leaves (request_answer sys.now (R.capacity (recorder_of self.old)) (name_of self.old) h request.now (first_reading r)) h result (R.history (recorder_of self.new)) × OnOk result (after ≡ Some (readings_left h request.now r))) }
+        ensures leaves { Traced (C.readings clock.old) (C.readings clock.new) (λ before after. (logs : Logs) (h : List Recording) (q : List Snapshot) (r : Readings) → R.history (recorder_of self.old) ≡ Some h → R.snapshots (recorder_of self.old) ≡ Some q → before ≡ Some r
+            → Leaves (request_answer (rules_of sys.now) (R.capacity (recorder_of self.old)) (name_of self.old) h q logs request.now (first_reading r)) h q result (R.history (recorder_of self.new)) (R.snapshots (recorder_of self.new))
+            × OnOk result (after ≡ Some (readings_after (takes_reading h request.now) r))) }
         ensures faults { IfErr result MayFailToAdd }
-        ensures same { Stays R.capacity R.snapshots R.faults self.old self.new }
+        ensures same { Stays R.capacity R.faults self.old self.new }
         ensures same_used { (used_of self.new) ≡ (used_of self.old) }
         ensures failed { IsErrOf result RunFault.Recorder → Rose (R.faults (recorder_of self.old)) (R.faults (recorder_of self.new)) }
     {
@@ -254,6 +317,7 @@ impl<R: ProcessRecorder> Application<R> {
             } => self.get(alloc, sys, *id, *version),
             Request::Log { app: _, section } => self.log(sys, section),
             Request::Tracking { app: _, leader } => self.position(leader),
+            Request::Snapshot { app: _, id } => self.take_snapshot(alloc, sys, *id),
             Request::Sync => Ok(Reply::Sync),
             Request::Stop => Ok(Reply::Stop),
         }
@@ -268,11 +332,12 @@ impl<R: ProcessRecorder> Application<R> {
         clock: &mut C,
     ) -> Result<Reply, RunFault>
         requires checked { IsCheckedSystem sys.now }
-        requires declared { IsDeclared sys.now (name_of self.old) command.now }
-        ensures leaves { Traced (C.readings clock.old) (C.readings clock.new) (λ before after. (h : List Recording) (r : Readings) → R.history (recorder_of self.old) ≡ Some h → before ≡ Some r
-            → Leaves (command_answer sys.now (R.capacity (recorder_of self.old)) (name_of self.old) h command.now (first_reading r)) h result (R.history (recorder_of self.new)) × OnOk result (after ≡ Some (readings_after h command.now r))) }
+        requires asked { request_in sys.now (command_text (name_of self.old) command.now) ≡ asks (requests.Do (name_of self.old) command.now) }
+        ensures leaves { Traced (C.readings clock.old) (C.readings clock.new) (λ before after. (logs : Logs) (h : List Recording) (q : List Snapshot) (r : Readings) → R.history (recorder_of self.old) ≡ Some h → R.snapshots (recorder_of self.old) ≡ Some q → before ≡ Some r
+            → Leaves (command_answer (rules_of sys.now) (R.capacity (recorder_of self.old)) (name_of self.old) h logs command.now (first_reading r)) h q result (R.history (recorder_of self.new)) (R.snapshots (recorder_of self.new))
+            × OnOk result (after ≡ Some (readings_after (not (differs h command.now.id command.now.expect)) r))) }
         ensures faults { IfErr result MayFailToAdd }
-        ensures same { Stays R.capacity R.snapshots R.faults self.old self.new }
+        ensures same { Stays R.capacity R.faults self.old self.new }
         ensures same_used { (used_of self.new) ≡ (used_of self.old) }
         ensures failed { IsErrOf result RunFault.Recorder → Rose (R.faults (recorder_of self.old)) (R.faults (recorder_of self.new)) }
     {
@@ -296,38 +361,40 @@ impl<R: ProcessRecorder> Application<R> {
         requires checked { IsCheckedSystem sys.now }
         requires declared { IsDeclared sys.now (name_of self.old) command.now }
         requires small { version < 2 ^ 62 }
-        ensures leaves { (h : List Recording) → R.history (recorder_of self.old) ≡ Some h → version ≡ latest (log h) command.now.id
-            → Leaves (answer_of (R.capacity (recorder_of self.old)) (name_of self.old) h (command_text (name_of self.old) command.now) command.now.id at (decision_of (name_of self.old) (command_verdict sys.now command.now at h))) h result (R.history (recorder_of self.new)) }
+        ensures leaves { (h : List Recording) (q : List Snapshot) → R.history (recorder_of self.old) ≡ Some h → R.snapshots (recorder_of self.old) ≡ Some q → version ≡ latest (log h) command.now.id
+            → Leaves (answer_of (rules_of sys.now) (R.capacity (recorder_of self.old)) (name_of self.old) h (command_text (name_of self.old) command.now) command.now.id at (decision_of (name_of self.old) (command_verdict sys.now command.now at h))) h q result (R.history (recorder_of self.new)) (R.snapshots (recorder_of self.new)) }
         ensures faults { IfErr result MayFailToAdd }
-        ensures same { Stays R.capacity R.snapshots R.faults self.old self.new }
+        ensures same { Stays R.capacity R.faults self.old self.new }
         ensures same_used { (used_of self.new) ≡ (used_of self.old) }
         ensures failed { IsErrOf result RunFault.Recorder → Rose (R.faults (recorder_of self.old)) (R.faults (recorder_of self.new)) }
     {
         let verdict = judge_command(alloc, sys, &mut self.recorder, command, at)?;
-        self.answer_with(alloc, command, version, at, verdict)
+        self.answer_with(alloc, sys, command, version, at, verdict)
     }
 
     // Answers a command by what it decides.
     fn answer_with(
         &mut self,
         alloc: Global,
+        sys: &System,
         command: &Command,
         version: u64,
         at: Moment,
         verdict: Verdict,
     ) -> Result<Reply, RunFault>
+        requires checked { IsCheckedSystem sys.now }
         requires small { version < 2 ^ 62 }
         requires verdict { IsSmallVerdict verdict }
         requires follows { IfSome (R.history (recorder_of self.old)) (λ h. FollowsIn (log h) verdict) }
-        ensures leaves { (h : List Recording) → R.history (recorder_of self.old) ≡ Some h → version ≡ latest (log h) command.now.id
-            → Leaves (answer_of (R.capacity (recorder_of self.old)) (name_of self.old) h (command_text (name_of self.old) command.now) command.now.id at (decision_of (name_of self.old) verdict)) h result (R.history (recorder_of self.new)) }
+        ensures leaves { (h : List Recording) (q : List Snapshot) → R.history (recorder_of self.old) ≡ Some h → R.snapshots (recorder_of self.old) ≡ Some q → version ≡ latest (log h) command.now.id
+            → Leaves (answer_of (rules_of sys.now) (R.capacity (recorder_of self.old)) (name_of self.old) h (command_text (name_of self.old) command.now) command.now.id at (decision_of (name_of self.old) verdict)) h q result (R.history (recorder_of self.new)) (R.snapshots (recorder_of self.new)) }
         ensures faults { IfErr result MayFailToAdd }
-        ensures same { Stays R.capacity R.snapshots R.faults self.old self.new }
+        ensures same { Stays R.capacity R.faults self.old self.new }
         ensures same_used { (used_of self.new) ≡ (used_of self.old) }
         ensures failed { IsErrOf result RunFault.Recorder → Rose (R.faults (recorder_of self.old)) (R.faults (recorder_of self.new)) }
     {
         match verdict {
-            Verdict::Events(events) => self.accept(alloc, command, version, at, events),
+            Verdict::Events(events) => self.accept(alloc, sys, command, version, at, events),
             Verdict::Refused { code, rule: _ } => Ok(Reply::Refused { code }),
             Verdict::Unreadable { id } => {
                 let app = self.name.copy()?;
@@ -336,34 +403,91 @@ impl<R: ProcessRecorder> Application<R> {
         }
     }
 
-    // Adds the events of a command.
+    // Adds the events of a command, and the snapshots that are due after them.
     fn accept(
         &mut self,
         alloc: Global,
+        sys: &System,
         command: &Command,
         version: u64,
         at: Moment,
         events: StoredEvents,
     ) -> Result<Reply, RunFault>
+        requires checked { IsCheckedSystem sys.now }
         requires small { version < 2 ^ 62 }
         requires versions { All (λ e. e.originator_version < 2 ^ 63) events }
         requires follows { IfSome (R.history (recorder_of self.old)) (λ h. first_conflict (log h) events ≡ None) }
-        ensures leaves { (h : List Recording) → R.history (recorder_of self.old) ≡ Some h → version ≡ latest (log h) command.now.id
-            → Leaves (accept_unless (too_many (R.capacity (recorder_of self.old)) (length (log h)) events) (R.capacity (recorder_of self.old)) (name_of self.old) h (recording_at (Cause.Command (command_text (name_of self.old) command.now)) at events) command.now.id) h result (R.history (recorder_of self.new)) }
+        ensures leaves { (h : List Recording) (q : List Snapshot) → R.history (recorder_of self.old) ≡ Some h → R.snapshots (recorder_of self.old) ≡ Some q → version ≡ latest (log h) command.now.id
+            → Leaves (accept_unless (rules_of sys.now) (too_many (R.capacity (recorder_of self.old)) (length (log h)) events) (R.capacity (recorder_of self.old)) (name_of self.old) h (recording_at (Cause.Command (command_text (name_of self.old) command.now)) at events) command.now.id) h q result (R.history (recorder_of self.new)) (R.snapshots (recorder_of self.new)) }
         ensures faults { IfErr result MayFailToAdd }
-        ensures same { Stays R.capacity R.snapshots R.faults self.old self.new }
+        ensures same { Stays R.capacity R.faults self.old self.new }
         ensures same_used { (used_of self.new) ≡ (used_of self.old) }
         ensures failed { IsErrOf result RunFault.Recorder → Rose (R.faults (recorder_of self.old)) (R.faults (recorder_of self.new)) }
     {
         let version = version + count_own(events.as_slice(), command.id);
         let recording = accepted(alloc, &self.name, command, at, events)?;
-        match self.add(&recording) {
-            Ok(inserted) => Ok(Reply::Accepted {
+        let inserted = match self.add(&recording) {
+            Ok(inserted) => inserted,
+            Err(fault) => return Err(fault),
+        };
+        match self.put_each_due(alloc, sys, recording.events.as_slice()) {
+            Ok(()) => Ok(Reply::Accepted {
                 recording: inserted.recording,
                 first: inserted.first,
                 last: inserted.last,
                 version,
             }),
+            Err(fault) => Err(fault),
+        }
+    }
+
+    /// Takes a snapshot of an aggregate at its latest version, unless one of its class's version is there.
+    pub fn take_snapshot(
+        &mut self,
+        alloc: Global,
+        sys: &System,
+        id: Uuid,
+    ) -> Result<Reply, RunFault>
+        requires checked { IsCheckedSystem sys.now }
+        ensures leaves { (h : List Recording) (q : List Snapshot) → R.history (recorder_of self.old) ≡ Some h → R.snapshots (recorder_of self.old) ≡ Some q
+            → Leaves (snapshot_answer (rules_of sys.now) (name_of self.old) q ((rules_of sys.now).read h id None)) h q result (R.history (recorder_of self.new)) (R.snapshots (recorder_of self.new)) }
+        ensures faults { IfErr result MayFailToRead }
+        ensures same { Stays R.capacity R.faults self.old self.new }
+        ensures same_used { (used_of self.new) ≡ (used_of self.old) }
+        ensures failed { IsErrOf result RunFault.Recorder → Rose (R.faults (recorder_of self.old)) (R.faults (recorder_of self.new)) }
+    {
+        let mut repository = Repository::new(alloc, 0)?;
+        match repository.get(sys, &mut self.recorder, id, None) {
+            Ok(aggregate) => {
+                let snapshot = snapshot(alloc, sys, &aggregate)?;
+                self.put_unless_kept(&snapshot)
+            }
+            Err(RepoFault::NotFound) => Ok(Reply::NotFound),
+            Err(RepoFault::Unreadable { id }) => {
+                let app = self.name.copy()?;
+                Ok(Reply::Unreadable { app, id })
+            }
+            Err(RepoFault::Failed) => Err(RunFault::Recorder),
+            Err(RepoFault::NoMemory) => Err(RunFault::NoMemory),
+        }
+    }
+
+    // Puts a snapshot, unless one of the same aggregate, version and class version is kept.
+    fn put_unless_kept(&mut self, snapshot: &Snapshot) -> Result<Reply, RunFault>
+        requires { IsSmallSnapshot snapshot.now }
+        ensures leaves { (h : List Recording) (q : List Snapshot) → R.history (recorder_of self.old) ≡ Some h → R.snapshots (recorder_of self.old) ≡ Some q
+            → Leaves (take_unless (is_there q snapshot.now) snapshot.now) h q result (R.history (recorder_of self.new)) (R.snapshots (recorder_of self.new)) }
+        ensures faults { IfErr result MayFailToRead }
+        ensures same { Stays R.capacity R.faults self.old self.new }
+        ensures same_used { (used_of self.new) ≡ (used_of self.old) }
+        ensures failed { IsErrOf result RunFault.Recorder → Rose (R.faults (recorder_of self.old)) (R.faults (recorder_of self.new)) }
+    {
+        let version = snapshot.originator_version;
+        if is_kept(&mut self.recorder, snapshot)? {
+            return Ok(Reply::Unchanged { version });
+        }
+        match self.put(snapshot) {
+            Ok(()) => Ok(Reply::Snapshot { version }),
             Err(fault) => Err(fault),
         }
     }
@@ -392,40 +516,53 @@ impl<R: ProcessRecorder> Application<R> {
         Ok(next.into_vec().pop())
     }
 
-    /// Processes a notification of a leader: the next one is recorded with the events that follow from
-    /// it, and any other changes nothing.
+    /// Whether it may record another notification of its leaders; where it may not, that is the fault.
+    pub fn turn(&self) -> Result<(), RunFault>
+        ensures left { OnOk result ((used_of self.now) < (turns_of self.now)) }
+        ensures used { IfErr result (λ fault. ((turns_of self.now) ≤ (used_of self.now)) × (fault ≡ RunFault.Turns (name_of self.now) (turns_of self.now)) ⊎ (fault ≡ RunFault.NoMemory)) }
+    {
+        if self.used < self.turns {
+            return Ok(());
+        }
+        let app = self.name.copy()?;
+        let turns = self.turns;
+        Err(RunFault::Turns { app, turns })
+    }
+
+    /// Processes a leader's notification by its id and its domain event, which `convert` gives: the next one is recorded with the events
+    /// that follow from it, and the snapshots that are due after these are put; any other changes nothing.
     pub fn process<C: Clock>(
         &mut self,
         alloc: Global,
         sys: &System,
         leader: &Text,
-        notification: &Notification,
+        id: u64,
+        event: &DomainEvent,
         clock: &mut C,
     ) -> Result<Processed, RunFault>
         requires checked { IsCheckedSystem sys.now }
         requires app { IsTrue (is_some (app_named sys.now.apps (name_of self.old))) }
-        requires leader { IsTrue (is_some (app_named sys.now.apps leader.now)) }
-        requires small { IsSmall notification.now }
-        ensures processed { Traced (C.readings clock.old) (C.readings clock.new) (λ before after. (logs : Logs) (h : List Recording) (r : Readings) → slice_get (logs leader.now) (notification.now.id - 1) ≡ Some notification.now.event
-            → R.history (recorder_of self.old) ≡ Some h → before ≡ Some r
-            → Processes leader.now notification.now.id
-            (followed (rules_of sys.now) (options (R.capacity (recorder_of self.old)) (turns_of self.old)) (name_of self.old) h (used_of self.old) logs leader.now notification.now.id (first_reading r))
-            h (used_of self.old) r result (R.history (recorder_of self.new)) (used_of self.new) after) }
+        requires notice { IsNotice sys.now (notice leader.now id event.now) }
+        ensures processed { Traced (C.readings clock.old) (C.readings clock.new) (λ before after. (logs : Logs) (h : List Recording) (q : List Snapshot) (r : Readings) → IsEntry sys.now logs leader.now id event.now
+            → R.history (recorder_of self.old) ≡ Some h → R.snapshots (recorder_of self.old) ≡ Some q → before ≡ Some r
+            → Processes leader.now id
+            (followed (rules_of sys.now) (options (R.capacity (recorder_of self.old)) (turns_of self.old)) (name_of self.old) h (used_of self.old) logs leader.now id (first_reading r))
+            h q (used_of self.old) r result (R.history (recorder_of self.new)) (R.snapshots (recorder_of self.new)) (used_of self.new) after) }
         ensures counts { (used_of self.old) ≤ (used_of self.new) }
         ensures bounded { (used_of self.old) ≤ (turns_of self.old) → (used_of self.new) ≤ (turns_of self.new) }
         ensures counted { IsRecorded result → (used_of self.new) ≡ (used_of self.old) + 1 }
         ensures free { IsRecorded result → (used_of self.old) < (turns_of self.old) }
-        ensures same { Stays R.capacity R.snapshots R.faults self.old self.new }
+        ensures same { Stays R.capacity R.faults self.old self.new }
         ensures failed { IsErrOf result RunFault.Recorder → Rose (R.faults (recorder_of self.old)) (R.faults (recorder_of self.new)) }
     {
         let tracked = self.recorder.max_tracking_id(leader)?;
-        if notification.id <= tracked {
+        if id <= tracked {
             return Ok(Processed::Skipped { tracked });
         }
-        if notification.id > tracked + 1 {
+        if id > tracked + 1 {
             return Ok(Processed::Gap { tracked });
         }
-        match self.take(alloc, sys, leader, notification, clock) {
+        match self.take(alloc, sys, leader, id, event, clock) {
             Ok(inserted) => Ok(Processed::Recorded {
                 first: inserted.first,
                 last: inserted.last,
@@ -434,39 +571,34 @@ impl<R: ProcessRecorder> Application<R> {
         }
     }
 
-    // Records the next notification, unless all turns are used or it has no meaning.
+    // Records the next notification, unless all turns are used.
     fn take<C: Clock>(
         &mut self,
         alloc: Global,
         sys: &System,
         leader: &Text,
-        notification: &Notification,
+        id: u64,
+        event: &DomainEvent,
         clock: &mut C,
     ) -> Result<Inserted, RunFault>
         requires checked { IsCheckedSystem sys.now }
         requires app { IsTrue (is_some (app_named sys.now.apps (name_of self.old))) }
-        requires leader { IsTrue (is_some (app_named sys.now.apps leader.now)) }
-        requires small { IsSmall notification.now }
-        requires next { IfSome (R.history (recorder_of self.old)) (λ h. notification.now.id ≡ tracked_in h leader.now + 1) }
-        ensures taken { Traced (C.readings clock.old) (C.readings clock.new) (λ before after. (logs : Logs) (h : List Recording) (r : Readings) → slice_get (logs leader.now) (notification.now.id - 1) ≡ Some notification.now.event
-            → R.history (recorder_of self.old) ≡ Some h → before ≡ Some r
-            → Takes (followed (rules_of sys.now) (options (R.capacity (recorder_of self.old)) (turns_of self.old)) (name_of self.old) h (used_of self.old) logs leader.now notification.now.id (first_reading r))
-            h (used_of self.old) r result (R.history (recorder_of self.new)) (used_of self.new) after) }
+        requires notice { IsNotice sys.now (notice leader.now id event.now) }
+        requires next { IfSome (R.history (recorder_of self.old)) (λ h. id ≡ tracked_in h leader.now + 1) }
+        ensures taken { Traced (C.readings clock.old) (C.readings clock.new) (λ before after. (logs : Logs) (h : List Recording) (q : List Snapshot) (r : Readings) → IsEntry sys.now logs leader.now id event.now
+            → R.history (recorder_of self.old) ≡ Some h → R.snapshots (recorder_of self.old) ≡ Some q → before ≡ Some r
+            → Takes (followed (rules_of sys.now) (options (R.capacity (recorder_of self.old)) (turns_of self.old)) (name_of self.old) h (used_of self.old) logs leader.now id (first_reading r))
+            h q (used_of self.old) r result (R.history (recorder_of self.new)) (R.snapshots (recorder_of self.new)) (used_of self.new) after) }
+        ensures counts { ((used_of self.new) ≡ (used_of self.old)) ⊎ ((used_of self.new) ≡ (used_of self.old) + 1) × ((used_of self.old) < (turns_of self.old)) }
         ensures counted { OnOk result ((used_of self.new) ≡ (used_of self.old) + 1) }
-        ensures uncounted { OnErr result ((used_of self.new) ≡ (used_of self.old)) }
         ensures free { OnOk result ((used_of self.old) < (turns_of self.old)) }
-        ensures same { Stays R.capacity R.snapshots R.faults self.old self.new }
+        ensures same { Stays R.capacity R.faults self.old self.new }
         ensures failed { IsErrOf result RunFault.Recorder → Rose (R.faults (recorder_of self.old)) (R.faults (recorder_of self.new)) }
     {
-        if self.used >= self.turns {
-            let app = self.name.copy()?;
-            let turns = self.turns;
-            return Err(RunFault::Turns { app, turns });
-        }
-        match convert(alloc, sys, leader, notification) {
-            Ok(event) => {
+        match self.turn() {
+            Ok(()) => {
                 let at = clock.now();
-                self.record(alloc, sys, leader, notification.id, &event, at)
+                self.record(alloc, sys, leader, id, event, at)
             }
             Err(fault) => Err(fault),
         }
@@ -487,11 +619,11 @@ impl<R: ProcessRecorder> Application<R> {
         requires notice { IsNotice sys.now (notice leader.now id event.now) }
         requires free { (used_of self.old) < (turns_of self.old) }
         requires next { IfSome (R.history (recorder_of self.old)) (λ h. id ≡ tracked_in h leader.now + 1) }
-        ensures records { (h : List Recording) → R.history (recorder_of self.old) ≡ Some h
-            → Records (followed_of (R.capacity (recorder_of self.old)) (name_of self.old) h leader.now id at (decision_of (name_of self.old) (policy_verdict sys.now (name_of self.old) (notice leader.now id event.now) at h))) h result (R.history (recorder_of self.new)) }
+        ensures records { (h : List Recording) (q : List Snapshot) → R.history (recorder_of self.old) ≡ Some h → R.snapshots (recorder_of self.old) ≡ Some q
+            → Records (followed_of (rules_of sys.now) (R.capacity (recorder_of self.old)) (name_of self.old) h leader.now id at (decision_of (name_of self.old) (policy_verdict sys.now (name_of self.old) (notice leader.now id event.now) at h))) h q result (R.history (recorder_of self.new)) (R.snapshots (recorder_of self.new)) }
+        ensures counts { ((used_of self.new) ≡ (used_of self.old)) ⊎ ((used_of self.new) ≡ (used_of self.old) + 1) }
         ensures counted { OnOk result ((used_of self.new) ≡ (used_of self.old) + 1) }
-        ensures uncounted { OnErr result ((used_of self.new) ≡ (used_of self.old)) }
-        ensures same { Stays R.capacity R.snapshots R.faults self.old self.new }
+        ensures same { Stays R.capacity R.faults self.old self.new }
         ensures failed { IsErrOf result RunFault.Recorder → Rose (R.faults (recorder_of self.old)) (R.faults (recorder_of self.new)) }
     {
         let events = match self.follow(alloc, sys, leader, id, event, at) {
@@ -503,11 +635,35 @@ impl<R: ProcessRecorder> Application<R> {
             id,
         };
         let recording = Recording { cause, at, events };
-        match self.add(&recording) {
-            Ok(inserted) => {
-                self.used += 1;
-                Ok(inserted)
-            }
+        self.save(alloc, sys, &recording)
+    }
+
+    // Adds the recording of a notification, and the snapshots that are due after it.
+    fn save(
+        &mut self,
+        alloc: Global,
+        sys: &System,
+        recording: &Recording,
+    ) -> Result<Inserted, RunFault>
+        requires checked { IsCheckedSystem sys.now }
+        requires insertable { IsInsertable recording.now }
+        requires fits { IfSome (R.history (recorder_of self.old)) (λ h. Fits h recording.now) }
+        requires free { (used_of self.old) < (turns_of self.old) }
+        ensures saves { (h : List Recording) (q : List Snapshot) → R.history (recorder_of self.old) ≡ Some h → R.snapshots (recorder_of self.old) ≡ Some q
+            → Records (add_unless (rules_of sys.now) (too_many (R.capacity (recorder_of self.old)) (length (log h)) recording.now.events) (R.capacity (recorder_of self.old)) (name_of self.old) h recording.now) h q result (R.history (recorder_of self.new)) (R.snapshots (recorder_of self.new)) }
+        ensures counts { ((used_of self.new) ≡ (used_of self.old)) ⊎ ((used_of self.new) ≡ (used_of self.old) + 1) }
+        ensures counted { OnOk result ((used_of self.new) ≡ (used_of self.old) + 1) }
+        ensures faults { IfErr result MayFailToAdd }
+        ensures same { Stays R.capacity R.faults self.old self.new }
+        ensures failed { IsErrOf result RunFault.Recorder → Rose (R.faults (recorder_of self.old)) (R.faults (recorder_of self.new)) }
+    {
+        let inserted = match self.add(recording) {
+            Ok(inserted) => inserted,
+            Err(fault) => return Err(fault),
+        };
+        self.used += 1;
+        match self.put_each_due(alloc, sys, recording.events.as_slice()) {
+            Ok(()) => Ok(inserted),
             Err(fault) => Err(fault),
         }
     }

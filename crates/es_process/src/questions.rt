@@ -5,6 +5,7 @@ ghost use Rattle.es_expr.specs.Checked.{IsCheckedSystem};
 ghost use Rattle.es_process.specs.Applications.{name_of, recorder_of};
 ghost use Rattle.es_process.specs.Questions.{get_reply, log_reply, tracking_reply, reply_section, section_size};
 ghost use Rattle.es_process.specs.Standing.{IsSame, MayFailToRead};
+ghost use Rattle.es_process.specs.SystemRules.{rules_of};
 
 use crate::Application;
 use crate::faults::RunFault;
@@ -44,7 +45,7 @@ impl<R: ProcessRecorder> Application<R> {
         version: Option<u64>,
     ) -> Result<Reply, RunFault>
         requires { IsCheckedSystem sys.now }
-        ensures told { IfSome (R.history (recorder_of self.old)) (λ h. IfOk result (λ reply. reply ≡ get_reply sys.now (name_of self.old) id version h)) }
+        ensures told { IfSome (R.history (recorder_of self.old)) (λ h. IfOk result (λ reply. reply ≡ get_reply (rules_of sys.now) (name_of self.old) id version h)) }
         ensures faults { IfErr result MayFailToRead }
         ensures same { IsSame R.history R.capacity R.snapshots R.faults self.old self.new }
         ensures failed { IsErrOf result RunFault.Recorder → Rose (R.faults (recorder_of self.old)) (R.faults (recorder_of self.new)) }
@@ -71,7 +72,7 @@ impl<R: ProcessRecorder> Application<R> {
 
     // Tells the section of its log that a text asks for.
     pub(crate) fn log(&mut self, sys: &System, text: &Text) -> Result<Reply, RunFault>
-        ensures told { IfSome (R.history (recorder_of self.old)) (λ h. IfOk result (λ reply. reply ≡ log_reply sys.now (name_of self.old) text.now h)) }
+        ensures told { IfSome (R.history (recorder_of self.old)) (λ h. IfOk result (λ reply. reply ≡ log_reply (rules_of sys.now) (name_of self.old) text.now h)) }
         ensures faults { IfErr result MayFailToRead }
         ensures same { IsSame R.history R.capacity R.snapshots R.faults self.old self.new }
         ensures failed { IsErrOf result RunFault.Recorder → Rose (R.faults (recorder_of self.old)) (R.faults (recorder_of self.new)) }

@@ -1,21 +1,25 @@
 //! Cases of an application over its recorder: what it makes of lines and of a leader's notifications.
 
-ghost use Rattle.std.specs.Prelude.{IsTrue, IfOk};
+ghost use Rattle.std.specs.Prelude.{◌≡◌, ◌<◌, ◌^◌, ℕ, List, IsTrue, IfOk, is_some};
 ghost use Rattle.es_model.specs.declared.declaration.System.{System as Declared};
+ghost use Rattle.es_model.specs.Declaration.{app_named};
 ghost use Rattle.es_expr.specs.Checked.{IsCheckedSystem};
-ghost use Rattle.es_lines.specs.Requests.{IsOfSystem};
+ghost use Rattle.es_lines.specs.Requests.{asks, request_in};
+ghost use Rattle.es_process.specs.Applications.{name_of};
 ghost use Rattle.es_process.specs.Leaves.{MayAsk};
 
 use crate::recorders::recorder;
+use crate::snapshots::snapshots_told;
 use crate::systems::{clock, system};
 use crate::verdicts::{is_notice, notification};
 use es_io::ListClock;
-use es_lines::{Request, read_line, reply_text};
+use es_lines::{Reply, Request, read_line, reply_text};
 use es_memory::MemoryRecorder;
 use es_model::limits::NUMBERS_END;
 use es_model::{Notification, System, Text};
-use es_process::{Application, Processed, RunFault};
-use es_steps::recordings::history_told;
+use es_process::{Application, Processed, RunFault, convert};
+use es_steps::recordings::{history_told, originator};
+use es_steps::steps;
 use es_suite::given;
 use es_suite::told::{self, Items, Members};
 use serde_json::Value;
@@ -35,12 +39,16 @@ pub(crate) fn application(
     }
 }
 
-/// How many notifications an application has recorded in this run, and all its recordings.
-pub(crate) fn left(alloc: Global, app: Application<MemoryRecorder>) -> Members {
+/// How many notifications an application has recorded in this run, the history of its recorder, and its
+/// snapshots where there are any.
+pub(crate) fn left(alloc: Global, used: u64, recorder: MemoryRecorder) -> Members {
     let mut told = Members::new(alloc);
-    told.put("used", app.used());
-    let (history, _) = app.close().into_parts();
+    told.put("used", used);
+    let (history, snapshots) = recorder.into_parts();
     told.put_items("held", history_told(alloc, history.as_slice()));
+    if !snapshots.as_slice().is_empty() {
+        told.put_items("snapshots", snapshots_told(alloc, snapshots.as_slice()));
+    }
     told
 }
 
@@ -100,6 +108,34 @@ fn told(alloc: Global, answer: &Result<Processed, RunFault>) -> anyhow::Result<V
     told.end()
 }
 
+// Delivers a leader's notification as a driver does. One that isn't the next is no fault whatever it means; for the next one
+// a turn is wanted before its meaning.
+fn deliver(
+    alloc: Global,
+    sys: &System,
+    app: &mut Application<MemoryRecorder>,
+    leader: &Text,
+    given: &Notification,
+    clock: &mut ListClock,
+) -> Result<Processed, RunFault>
+    requires checked { IsCheckedSystem sys.now }
+    requires app { IsTrue (is_some (app_named sys.now.apps (name_of app.old))) }
+    requires leader { IsTrue (is_some (app_named sys.now.apps leader.now)) }
+    requires id { given.now.id < 2 ^ 62 }
+    requires version { given.now.event.originator_version < 2 ^ 62 }
+{
+    let tracked = app.tracked(leader)?;
+    if given.id == tracked + 1 {
+        app.turn()?;
+    }
+    match convert(alloc, sys, leader, given) {
+        Ok(event) => app.process(alloc, sys, leader, given.id, &event, clock),
+        Err(_) if given.id <= tracked => Ok(Processed::Skipped { tracked }),
+        Err(_) if given.id > tracked + 1 => Ok(Processed::Gap { tracked }),
+        Err(fault) => Err(fault),
+    }
+}
+
 // Lets the application process a leader's notification.
 fn process(
     alloc: Global,
@@ -112,7 +148,7 @@ fn process(
     requires { IsCheckedSystem sys.now }
 {
     if is_notice(sys, app.name(), leader, given) {
-        told(alloc, &app.process(alloc, sys, leader, given, clock))
+        told(alloc, &deliver(alloc, sys, app, leader, given, clock))
     } else {
         Err(anyhow::anyhow!("no application, or too great a number"))
     }
@@ -120,7 +156,7 @@ fn process(
 
 // What a line asks.
 fn request(alloc: Global, sys: &System, line: &str) -> anyhow::Result<Request>
-    ensures { IfOk result (IsOfSystem sys.now) }
+    ensures { IfOk result (λ r. request_in sys.now line.now ≡ asks r) }
 {
     match read_line(alloc, sys, line.as_bytes()) {
         Ok(request) => Ok(request),
@@ -130,11 +166,22 @@ fn request(alloc: Global, sys: &System, line: &str) -> anyhow::Result<Request>
 
 // Whether what a line asks may be asked of the application of a name.
 fn may_ask(name: &Text, request: &Request) -> bool
-    ensures { (sys : Declared) → IsOfSystem sys request.now → IsTrue result → MayAsk sys name.now request.now }
+    ensures { (sys : Declared) (line : List ℕ) → request_in sys line ≡ asks request.now → IsTrue result → MayAsk sys name.now request.now }
 {
     match request {
         Request::Do { app, command: _ } => app.as_str() == name.as_str(),
         _ => true,
+    }
+}
+
+// A reply as it is written.
+fn replied(alloc: Global, answer: &Result<Reply, RunFault>) -> anyhow::Result<Value> {
+    match answer {
+        Ok(reply) => {
+            let text = reply_text(alloc, reply)?;
+            Ok(Value::from_str(alloc, str::from_utf8(text.as_slice())?)?)
+        }
+        Err(failed) => fault(alloc, failed),
     }
 }
 
@@ -153,13 +200,7 @@ fn reply(
     if !may_ask(app.name(), &request) {
         return Err(anyhow::anyhow!("another application"));
     }
-    match app.answer(alloc, sys, &request, clock) {
-        Ok(reply) => {
-            let text = reply_text(alloc, &reply)?;
-            Ok(Value::from_str(alloc, str::from_utf8(text.as_slice())?)?)
-        }
-        Err(failed) => fault(alloc, &failed),
-    }
+    replied(alloc, &app.answer(alloc, sys, &request, clock))
 }
 
 // The id of the notification after one, or null.
@@ -219,6 +260,8 @@ fn stepped(
         reply(alloc, sys, app, line, clock)
     } else if let Some(after) = step.get("after").and_then(Value::as_u64) {
         next(alloc, app, after)
+    } else if let Some(number) = step.get("take").and_then(Value::as_u64) {
+        replied(alloc, &app.take_snapshot(alloc, sys, originator(number)))
     } else if step.get("tracked").is_some() {
         tracked(alloc, app, &given::owned(alloc, step, "tracked")?)
     } else {
@@ -243,15 +286,19 @@ fn answers(
     Ok(answers)
 }
 
-/// What an application answers to each step, and what it holds then.
+/// What an application answers to each step, what its recorder answers to those `then`, and what it holds at last.
 pub(crate) fn answer(alloc: Global, base: &Value, case: &Value) -> anyhow::Result<Value> {
     let steps = given::items(case, "application")?;
     let sys = system(alloc, base)?;
     let mut clock = clock(alloc, case)?;
     let mut app = application(alloc, case)?;
-    let answers = answers(alloc, &sys, &mut app, steps, &mut clock)?;
+    let mut answers = answers(alloc, &sys, &mut app, steps, &mut clock)?;
+    let used = app.used();
+    let mut recorder = app.close();
+    let then = given::items_if_any(case, "then");
+    steps::answers(alloc, &mut recorder, then, &mut answers)?;
     let mut told = Members::new(alloc);
     told.put_items("answers", answers);
-    told.put_members("left", left(alloc, app));
+    told.put_members("left", left(alloc, used, recorder));
     told.end()
 }

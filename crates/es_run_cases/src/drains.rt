@@ -110,9 +110,9 @@ fn held(
     let mut told = Members::new(alloc);
     told.put("end", end);
     let follower = apps.pop().context("no follower")?;
-    told.put_members("follower", left(alloc, follower));
+    told.put_members("follower", left(alloc, follower.used(), follower.close()));
     let leader = apps.pop().context("no leader")?;
-    told.put_members("leader", left(alloc, leader));
+    told.put_members("leader", left(alloc, leader.used(), leader.close()));
     told.end()
 }
 

@@ -4,8 +4,10 @@
 
 mod applications;
 mod drains;
+mod fused_stores;
 mod recorders;
 mod runs;
+mod snapshots;
 mod stores;
 mod systems;
 mod verdicts;
@@ -27,7 +29,9 @@ impl Suite for Cases {
         case: &Value,
     ) -> anyhow::Result<Value> {
         match file {
-            "applications.jsonl" | "questions.jsonl" => applications::answer(alloc, base, case),
+            "applications.jsonl" | "questions.jsonl" | "snapshots.jsonl" => {
+                applications::answer(alloc, base, case)
+            }
             "decisions.jsonl" | "verdicts.jsonl" => verdicts::answer(alloc, base, case),
             "drains.jsonl" => drains::answer(alloc, base, case),
             "formed.jsonl" => stores::formed(alloc, case),

@@ -1,6 +1,7 @@
 //! Cases of a recorder in memory: what it answers to some steps, in order. Behind a fuse the steps
 //! `then` are those of the recorder that the fuse gives back.
 
+use crate::snapshots::snapshots;
 use anyhow::Context;
 use es_memory::{FuseRecorder, MemoryRecorder, is_formed};
 use es_model::Snapshots;
@@ -12,27 +13,32 @@ use es_suite::told::Items;
 use serde_json::Value;
 use std::alloc::Global;
 
-// A recorder with a history that isn't empty.
-fn with(alloc: Global, held: &[Value], capacity: u64) -> anyhow::Result<MemoryRecorder> {
+// A recorder with a history and snapshots.
+fn with(
+    alloc: Global,
+    held: &[Value],
+    snapshots: Snapshots,
+    capacity: u64,
+) -> anyhow::Result<MemoryRecorder> {
     let history = history(alloc, held)?;
     if capacity < NUMBERS_END && is_formed(&history) {
-        let recorder = MemoryRecorder::with(alloc, history, Snapshots::new(alloc), capacity)?;
-        Ok(recorder)
+        Ok(MemoryRecorder::with(alloc, history, snapshots, capacity)?)
     } else {
         Err(anyhow::anyhow!("a history that isn't formed, or too great a capacity"))
     }
 }
 
-/// A recorder with the history of a case and its capacity.
+/// A recorder with the history of a case, its snapshots and its capacity.
 pub(crate) fn recorder(alloc: Global, case: &Value) -> anyhow::Result<MemoryRecorder> {
     let held = given::items_if_any(case, "held");
+    let snapshots = snapshots(alloc, case)?;
     let capacity = given::number_or(case, "capacity", 9);
     if capacity >= NUMBERS_END {
         Err(anyhow::anyhow!("too great a capacity"))
-    } else if held.is_empty() {
+    } else if held.is_empty() && snapshots.as_slice().is_empty() {
         Ok(MemoryRecorder::new(alloc, capacity))
     } else {
-        with(alloc, held, capacity)
+        with(alloc, held, snapshots, capacity)
     }
 }
 

@@ -1,5 +1,7 @@
 //! Cases of whole runs over objects in memory, and of the numbers of their ends.
 
+use crate::fused_stores::FusedStores;
+use crate::snapshots::snapshots_told;
 use crate::stores::stores;
 use crate::systems::{clock, failing};
 use anyhow::Context;
@@ -15,14 +17,13 @@ use es_top::{Status, evsys_single};
 use serde_json::Value;
 use std::alloc::Global;
 
-// The objects of a run.
+// The objects of a run but for its stores.
 #[derive(Drop)]
 struct Objects {
     words: Vec<String>,
     system: MemoryDocument,
     lines: MemorySource,
     out: MemorySink,
-    stores: MemoryStores,
     clock: ListClock,
 }
 
@@ -98,62 +99,92 @@ fn objects_of(alloc: Global, base: &Value, case: &Value) -> anyhow::Result<Objec
     let system = system(alloc, base, case)?;
     let lines = lines(alloc, case)?;
     let out = out(alloc, case)?;
-    let stores = stores(alloc, case)?;
     let clock = clock(alloc, case)?;
     Ok(Objects {
         words,
         system,
         lines,
         out,
-        stores,
         clock,
     })
 }
 
 // The one call of the whole program.
-fn run(alloc: Global, objects: &mut Objects) -> Status {
+fn run<M: Stores>(alloc: Global, objects: &mut Objects, stores: &mut M) -> Status {
     evsys_single(
         alloc,
         objects.words.as_slice(),
         &mut objects.system,
         &mut objects.lines,
         &mut objects.out,
-        &mut objects.stores,
+        stores,
         &mut objects.clock,
     )
 }
 
-// Tells what the stores hold of an application, which is opened again.
+// The number of a run's end, and the stores after it. Where the case has fuses its recorders stand behind them.
+fn run_over(
+    alloc: Global,
+    objects: &mut Objects,
+    mut stores: MemoryStores,
+    case: &Value,
+) -> anyhow::Result<(u8, MemoryStores)> {
+    if case.get("fuses").is_none() {
+        let code = run(alloc, objects, &mut stores).code();
+        return Ok((code, stores));
+    }
+    let mut fused = FusedStores::new(alloc, stores, given::items(case, "fuses")?)?;
+    let code = run(alloc, objects, &mut fused).code();
+    Ok((code, fused.into_inner()))
+}
+
+// Tells what the stores hold of an application, which is opened again, and its snapshots where there are any.
 fn put_held(
     alloc: Global,
     held: &mut Members,
+    kept: &mut Members,
     stores: &mut MemoryStores,
     app: &str,
-) -> anyhow::Result<()> {
+) -> anyhow::Result<bool> {
     let name = Text::from_str(alloc, app)?;
     let recorder = stores.open(None, &name, 1000)?;
-    let (history, _) = recorder.into_parts();
+    let (history, snapshots) = recorder.into_parts();
     held.put_items(app, history_told(alloc, history.as_slice()));
-    Ok(())
+    if snapshots.as_slice().is_empty() {
+        return Ok(false);
+    }
+    kept.put_items(app, snapshots_told(alloc, snapshots.as_slice()));
+    Ok(true)
 }
 
-// What the stores hold of some applications.
-fn held(alloc: Global, stores: &mut MemoryStores, apps: &[Value]) -> anyhow::Result<Members> {
+// Tells what the stores hold of some applications, and the snapshots of those that have any.
+fn put_stores(
+    alloc: Global,
+    told: &mut Members,
+    stores: &mut MemoryStores,
+    apps: &[Value],
+) -> anyhow::Result<()> {
     let mut held = Members::new(alloc);
+    let mut kept = Members::new(alloc);
+    let mut has_any = false;
     for app in apps {
-        put_held(alloc, &mut held, stores, app.as_str().context("no name")?)?;
+        let app = app.as_str().context("no name")?;
+        has_any |= put_held(alloc, &mut held, &mut kept, stores, app)?;
     }
-    Ok(held)
+    told.put_members("held", held);
+    if has_any {
+        told.put_members("snapshots", kept);
+    }
+    Ok(())
 }
 
 /// The status of a run over some lines, what is written, and what the stores hold of some applications.
 pub(crate) fn answer(alloc: Global, base: &Value, case: &Value) -> anyhow::Result<Value> {
     let mut objects = objects_of(alloc, base, case)?;
-    let code = run(alloc, &mut objects).code();
+    let (code, mut stores) = run_over(alloc, &mut objects, stores(alloc, case)?, case)?;
     let apps = given::items_if_any(case, "apps");
-    let held = held(alloc, &mut objects.stores, apps)?;
     let mut told = Members::new(alloc);
-    told.put_members("held", held);
+    put_stores(alloc, &mut told, &mut stores, apps)?;
     told.put("status", code);
     told.put_bytes("written", objects.out.bytes());
     told.end()

@@ -4,11 +4,12 @@
 ghost use Rattle.std.specs.Prelude.{◌≡◌, IfOk};
 ghost use Rattle.es_memory.specs.Contents.{AreFormed};
 
+use crate::snapshots::snapshots;
 use crate::systems::failing;
 use anyhow::Context;
 use es_memory::{Content, Contents, MemoryRecorder, MemoryStores, are_formed, is_formed};
 use es_model::limits::NUMBERS_END;
-use es_model::{List, Snapshots, Text};
+use es_model::{List, Text};
 use es_recorder::Stores;
 use es_steps::recordings::history;
 use es_steps::steps;
@@ -21,10 +22,11 @@ use std::alloc::Global;
 fn content(alloc: Global, row: &Value) -> anyhow::Result<Content> {
     let recordings = history(alloc, given::items_if_any(row, "held"))?;
     let app = given::owned(alloc, row, "app")?;
+    let snapshots = snapshots(alloc, row)?;
     Ok(Content {
         app,
         recordings,
-        snapshots: Snapshots::new(alloc),
+        snapshots,
     })
 }
 

@@ -1,12 +1,12 @@
 -- The loop over the lines of a run, and what it leaves where it stops.
 use Rattle.std.proofs.Common.{◌≡◌, inl, inr, ◌+◌, ◌++◌, ℕ, Bool, true, false, if◌then◌else◌, List, [], ◌∷◌, Option, Result, Ok, Err, refl, sym, ap, ◌∙◌, subst, append_assoc, length-append, arith}
 use Rattle.std.specs.Io.KnownBytes.{Appends}
-use Rattle.es_model.specs.History.{Histories}
 use Rattle.es_model.specs.Lines.{Line, over}
 use Rattle.es_lines.specs.declared.ends.End.{End}
 use Rattle.es_lines.specs.declared.ends.End.TheVariants as end
 use Rattle.es_process.specs.declared.faults.RunFault.{RunFault}
 use Rattle.es_process.specs.declared.faults.RunFault.TheVariants as fault
+use Rattle.es_process.specs.Contents.{Contents}
 use Rattle.es_process.specs.Drains.{Drains}
 use Rattle.es_process.specs.Decision.{Rules}
 use Rattle.es_process.specs.SingleThread.{Goes, leaders_of, stops_lines, up_to_stop, written_by}
@@ -41,7 +41,7 @@ none_stops rules (l ∷ lines) line none not = (none.0, none_stops rules lines l
 
 module _ (t : Terms) where
   -- a line that was taken, and what answering it left
-  pub turned : (s : State) (H : State → Type 0) (ls rest : List Line) (line : Line) (L : Histories → Type 0) (u w : Option (List ℕ)) (result : Result (Unit {0}) Stop) → (line ≡ over → ⊥) → ls ≡ line ∷ rest → TellsStop t.rules line result → AnswersLine t s H line L u w result
+  pub turned : (s : State) (H : State → Type 0) (ls rest : List Line) (line : Line) (L : Contents → Type 0) (u w : Option (List ℕ)) (result : Result (Unit {0}) Stop) → (line ≡ over → ⊥) → ls ≡ line ∷ rest → TellsStop t.rules line result → AnswersLine t s H line L u w result
       → TakesTurn t s H ls rest L u w result
   turned s H ls rest line L u w (Ok x) not parts tells so = (line, parts, not, tells, so)
   turned s H ls rest line L u w (Err stop.Asked) not parts tells so = (line, parts, not, tells, so)
@@ -56,14 +56,14 @@ none_over [] line none not = (not, tt)
 none_over (l ∷ lines) line none not = (none.0, none_over lines line none.1 not)
 
 module _ (t : Terms) (s : State) where
-  abbrev pub begun : (H : State → Type 0) (L : Histories → Type 0) (u : Option (List ℕ)) (y : Unit {0}) (x : Drains t s H L (leaders_of t.rules.pairs) u (Ok y)) → Begun t s x.state u u
+  abbrev pub begun : (H : State → Type 0) (L : Contents → Type 0) (u : Option (List ℕ)) (y : Unit {0}) (x : Drains t s H L (leaders_of t.rules.pairs) u (Ok y)) → Begun t s x.state u u
   begun H L u y x = record { steps = x.steps; goes = λ more openings. x.goes (record { openings = openings; lines = more; answered = 0 }); written = x.written }
 
   abbrev pub none_answered : (n : State) (H : State → Type 0) (ls : List Line) (u v : Option (List ℕ)) → Begun t s n u v → H n → Answered t s H ls ls 0 u v
   none_answered n H ls u v x held = record { taken = []; parts = refl; counted = refl; within = tt; going = tt; state = n; steps = x.steps; held = held; goes = λ more openings. x.goes more openings; written = x.written }
 
   module _ (H : State → Type 0) (ls rest : List Line) (count : ℕ) (u v : Option (List ℕ)) (x : Answered t s H ls rest count u v) where
-    abbrev pub one_answered : (K : State → Type 0) (w : Option (List ℕ)) (L : Histories → Type 0) (coming : List Line) (y : TakesTurn t x.state K rest coming L v w (Ok tt)) → Answered t s K ls coming (count + 1) u w
+    abbrev pub one_answered : (K : State → Type 0) (w : Option (List ℕ)) (L : Contents → Type 0) (coming : List Line) (y : TakesTurn t x.state K rest coming L v w (Ok tt)) → Answered t s K ls coming (count + 1) u w
     one_answered K w L coming y = record {
       taken = x.taken ++ y.0 ∷ [];
       parts = x.parts ∙ ap (λ (l : List Line). x.taken ++ l) y.1 ∙ sym (append_assoc x.taken (y.0 ∷ []) coming);
@@ -85,7 +85,7 @@ module _ (t : Terms) (s : State) where
     left_lines others is = ap (up_to_stop t.rules) (x.parts ∙ ap (λ (l : List Line). x.taken ++ l) is) ∙ stop-behind t.rules x.taken others x.going
 
     -- a line asked to stop, and was answered
-    asked_stop : (K : State → Type 0) (w : Option (List ℕ)) (L : Histories → Type 0) (coming : List Line) → TakesTurn t x.state K rest coming L v w (Err stop.Asked) → Came t (whole t s ls) K u w (λ n. served [] (count + 1) n)
+    asked_stop : (K : State → Type 0) (w : Option (List ℕ)) (L : Contents → Type 0) (coming : List Line) → TakesTurn t x.state K rest coming L v w (Err stop.Asked) → Came t (whole t s ls) K u w (λ n. served [] (count + 1) n)
     asked_stop K w L coming y = record {
       state = y.4.state;
       steps = x.steps ++ y.4.steps;
@@ -112,12 +112,12 @@ module _ (t : Terms) (s : State) where
         let far = came_far [] is in
         record { state = x.state; steps = x.steps; held = held; goes = far.goes; written = subst (λ y. Appends u y (written_by x.steps)) (sym still) x.written }
 
-    pub is_over : (L : Histories → Type 0) (w : Option (List ℕ)) → rest ≡ over ∷ [] → L x.state.histories → w ≡ v → Ended t (whole t s ls) L u w end.Over
+    pub is_over : (L : Contents → Type 0) (w : Option (List ℕ)) → rest ≡ over ∷ [] → L x.state.contents → w ≡ v → Ended t (whole t s ls) L u w end.Over
     is_over L w is held still =
         let far = came_far (over ∷ []) is in
         record {
           steps = x.steps;
-          histories = x.state.histories;
+          contents = x.state.contents;
           held = held;
           run = λ σ. Goes-end t.rules t.options σ.openings (whole t s ls σ) (served (over ∷ []) count x.state σ) x.steps end.Over (far.goes σ) refl;
           made = λ σ. (far.goes σ).left;
@@ -139,10 +139,10 @@ module _ (t : Terms) (s : State) where
     }
 
     -- nothing more was done
-    idle_cut : (L : Histories → Type 0) (w : Option (List ℕ)) → L x.state.histories → w ≡ v → CutShort t (served (up_to_stop t.rules rest) count x.state) L v w []
+    idle_cut : (L : Contents → Type 0) (w : Option (List ℕ)) → L x.state.contents → w ≡ v → CutShort t (served (up_to_stop t.rules rest) count x.state) L v w []
     idle_cut L w held still = record {
       done = [];
-      histories = x.state.histories;
+      contents = x.state.contents;
       held = held;
       cut = λ σ. Cut-none t σ.openings (served (up_to_stop t.rules rest) count x.state σ);
       made = λ σ. refl;
@@ -157,27 +157,27 @@ module _ (t : Terms) (s : State) where
     abbrev here : List Line → Setting → Setting
     here others σ = record { openings = σ.openings; lines = others; answered = count }
 
-    cut_there : (L : Histories → Type 0) (w : Option (List ℕ)) (line : Line) (others : List Line) (front : List ℕ) → CutShort t (at_line x.state line) L v w front → CutShort t (served (line ∷ others) count x.state) L v w front
+    cut_there : (L : Contents → Type 0) (w : Option (List ℕ)) (line : Line) (others : List Line) (front : List ℕ) → CutShort t (at_line x.state line) L v w front → CutShort t (served (line ∷ others) count x.state) L v w front
     cut_there L w line others front y = record {
       done = y.done;
-      histories = y.histories;
+      contents = y.contents;
       held = y.held;
       cut = λ σ. y.cut (here others σ);
       made = λ σ. y.made (here others σ);
       written = y.written;
     }
 
-    ended_there : (L : Histories → Type 0) (w : Option (List ℕ)) (line : Line) (others : List Line) (e : End) → Ended t (at_line x.state line) L v w e → Ended t (served (line ∷ others) count x.state) L v w e
+    ended_there : (L : Contents → Type 0) (w : Option (List ℕ)) (line : Line) (others : List Line) (e : End) → Ended t (at_line x.state line) L v w e → Ended t (served (line ∷ others) count x.state) L v w e
     ended_there L w line others e y = record {
       steps = y.steps;
-      histories = y.histories;
+      contents = y.contents;
       held = y.held;
       run = λ σ. y.run (here others σ);
       made = λ σ. y.made (here others σ);
       written = y.written;
     }
 
-    faulted_there : (f : RunFault) (L : Histories → Type 0) (w : Option (List ℕ)) (line : Line) (others : List Line) → Faulted t (at_line x.state line) f L v w → Faulted t (served (line ∷ others) count x.state) f L v w
+    faulted_there : (f : RunFault) (L : Contents → Type 0) (w : Option (List ℕ)) (line : Line) (others : List Line) → Faulted t (at_line x.state line) f L v w → Faulted t (served (line ∷ others) count x.state) f L v w
     faulted_there (fault.Refused app leader id recordings code rule) L w line others y = ended_there L w line others (end.Refused app leader id recordings code rule) y
     faulted_there (fault.Turns app turns) L w line others y = ended_there L w line others (end.Turns app turns) y
     faulted_there (fault.Unreadable app id) L w line others y = ended_there L w line others (end.Unreadable app id) y
@@ -185,14 +185,14 @@ module _ (t : Terms) (s : State) where
     faulted_there fault.Recorder L w line others y = cut_there L w line others [] y
     faulted_there fault.NoMemory L w line others y = cut_there L w line others [] y
 
-    fault_stops : (K : State → Type 0) (coming : List Line) (f : RunFault) (L : Histories → Type 0) (w : Option (List ℕ)) → ((n : State) → K n → L n.histories) → TakesTurn t x.state K rest coming L v w (Err (stop.Fault f)) → Faulted t (whole t s ls) f L u w
+    fault_stops : (K : State → Type 0) (coming : List Line) (f : RunFault) (L : Contents → Type 0) (w : Option (List ℕ)) → ((n : State) → K n → L n.contents) → TakesTurn t x.state K rest coming L v w (Err (stop.Fault f)) → Faulted t (whole t s ls) f L u w
     fault_stops K coming f L w told (inl idle) =
         subst (λ g. Faulted t (whole t s ls) g L u w) (sym idle.0)
         (came_cut t (whole t s ls) (λ n. Unit {0}) u v (λ n. served (up_to_stop t.rules rest) count n) (came_far rest refl) L w [] (idle_cut L w (told x.state idle.1.held) idle.1.unwritten))
     fault_stops K coming f L w told (inr first) =
         came_faulted t (whole t s ls) (λ n. Unit {0}) u v (λ n. served (up_to_stop t.rules (first.line ∷ first.rest)) count n) (came_far (first.line ∷ first.rest) first.parts) f L w (faulted_there f L w first.line (behind first.line first.rest) first.of_it)
 
-    pub stopped : (K : State → Type 0) (coming : List Line) (why : Stop) (L : Histories → Type 0) (w : Option (List ℕ)) → ((n : State) → K n → L n.histories) → TakesTurn t x.state K rest coming L v w (Err why) → Serves t s K ls why count L u w
+    pub stopped : (K : State → Type 0) (coming : List Line) (why : Stop) (L : Contents → Type 0) (w : Option (List ℕ)) → ((n : State) → K n → L n.contents) → TakesTurn t x.state K rest coming L v w (Err why) → Serves t s K ls why count L u w
     stopped K coming stop.End L w told so = all_answered K w so.0 so.1.held so.1.unwritten
     stopped K coming stop.Asked L w told so = asked_stop K w L coming so
     stopped K coming stop.Over L w told so = is_over L w so.0 (told x.state so.1.held) so.1.unwritten
@@ -205,14 +205,14 @@ module _ (t : Terms) (s : State) where
 abbrev at_first : List Line → Setting → Setting
 at_first ls σ = record { openings = σ.openings; lines = ls; answered = 0 }
 
-pub drain_stopped : (t : Terms) (s : State) (ls : List Line) (f : RunFault) (L : Histories → Type 0) (u : Option (List ℕ)) → Faulted t (standing s (leaders_of t.rules.pairs) []) f L u u → Faulted t (whole t s ls) f L u u
+pub drain_stopped : (t : Terms) (s : State) (ls : List Line) (f : RunFault) (L : Contents → Type 0) (u : Option (List ℕ)) → Faulted t (standing s (leaders_of t.rules.pairs) []) f L u u → Faulted t (whole t s ls) f L u u
 drain_stopped t s ls f L u so = by_fault f so
   where
     cut : CutShort t (standing s (leaders_of t.rules.pairs) []) L u u [] → CutShort t (whole t s ls) L u u []
-    cut y = record { done = y.done; histories = y.histories; held = y.held; cut = λ σ. y.cut (at_first (up_to_stop t.rules ls) σ); made = λ σ. y.made (at_first (up_to_stop t.rules ls) σ); written = y.written }
+    cut y = record { done = y.done; contents = y.contents; held = y.held; cut = λ σ. y.cut (at_first (up_to_stop t.rules ls) σ); made = λ σ. y.made (at_first (up_to_stop t.rules ls) σ); written = y.written }
 
     ended : (e : End) → Ended t (standing s (leaders_of t.rules.pairs) []) L u u e → Ended t (whole t s ls) L u u e
-    ended e y = record { steps = y.steps; histories = y.histories; held = y.held; run = λ σ. y.run (at_first (up_to_stop t.rules ls) σ); made = λ σ. y.made (at_first (up_to_stop t.rules ls) σ); written = y.written }
+    ended e y = record { steps = y.steps; contents = y.contents; held = y.held; run = λ σ. y.run (at_first (up_to_stop t.rules ls) σ); made = λ σ. y.made (at_first (up_to_stop t.rules ls) σ); written = y.written }
 
     by_fault : (g : RunFault) → Faulted t (standing s (leaders_of t.rules.pairs) []) g L u u → Faulted t (whole t s ls) g L u u
     by_fault (fault.Refused app leader id recordings code rule) y = ended (end.Refused app leader id recordings code rule) y

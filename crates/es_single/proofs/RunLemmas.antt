@@ -3,7 +3,6 @@ use Rattle.std.proofs.Common.{◌≡◌, inl, inr, ◌++◌, ℕ, List, [], Opti
 use Rattle.std.specs.Io.KnownBytes.{Appends}
 use Rattle.es_model.specs.declared.declaration.System.{System}
 use Rattle.es_model.specs.declared.memory.Failed.{Failed}
-use Rattle.es_model.specs.History.{Histories}
 use Rattle.es_model.specs.declared.limits.TheConstants.{MOST_LINE_BYTES, MOST_INPUT_BYTES}
 use Rattle.es_model.specs.Lines.{Line, pieces_of, lines_of_pieces}
 use Rattle.es_model.specs.Values.{Name}
@@ -12,6 +11,7 @@ use Rattle.es_lines.specs.declared.ends.End.{End}
 use Rattle.es_lines.specs.declared.ends.End.TheVariants as end
 use Rattle.es_process.specs.declared.faults.RunFault.{RunFault}
 use Rattle.es_process.specs.declared.faults.RunFault.TheVariants as fault
+use Rattle.es_process.specs.Contents.{Contents}
 use Rattle.es_process.specs.Faults.{end_of}
 use Rattle.es_process.specs.SingleThread.{added_counts, leaders_of, up_to_stop, Run, IsRun, Goes, written_by}
 use Rattle.es_process.specs.Standing.{State, Setting, stand, Came, Ended, CutShort, CutInText, Faulted}
@@ -29,14 +29,14 @@ use Rattle.es_single.proofs.CountLemmas.{counts-empty}
 use Rattle.es_single.proofs.LoopLemmas.{stop-behind}
 use Rattle.es_single.proofs.TakenLemmas.{taken_lines}
 
-module _ (t : Terms) (openings : Histories) (r : Readings) (i : List ℕ) (L : Histories → Type 0) (u : Option (List ℕ)) where
+module _ (t : Terms) (opening : Contents) (r : Readings) (i : List ℕ) (L : Contents → Type 0) (u : Option (List ℕ)) where
   abbrev pub plain : Setting
-  plain = record { openings = openings; lines = []; answered = 0 }
+  plain = record { openings = opening.histories; lines = []; answered = 0 }
 
   abbrev pub first : State
-  first = state_of openings r
+  first = state_of opening r
 
-  pub whole_of : (w : Option (List ℕ)) (e : End) → Ended t (whole t first (all_lines i)) L u w e → WholeRun t openings r i L u w e
+  pub whole_of : (w : Option (List ℕ)) (e : End) → Ended t (whole t first (all_lines i)) L u w e → WholeRun t opening r i L u w e
   whole_of w e x = record {
     steps = x.steps;
     is = x.run plain;
@@ -44,9 +44,9 @@ module _ (t : Terms) (openings : Histories) (r : Readings) (i : List ℕ) (L : H
     written = x.written;
   }
 
-  pub part_of : (w : Option (List ℕ)) (front : List ℕ) → CutShort t (whole t first (all_lines i)) L u w front → PartRun t openings r i L u w front
+  pub part_of : (w : Option (List ℕ)) (front : List ℕ) → CutShort t (whole t first (all_lines i)) L u w front → PartRun t opening r i L u w front
   part_of w front x =
-      let one = run-exists t.rules t.options openings r (lines_for t.rules i) in
+      let one = run-exists t.rules t.options opening.histories opening r (lines_for t.rules i) in
       let begins = (x.cut plain).of_run one.run one.is in
       record {
         run = one.run;
@@ -60,9 +60,9 @@ module _ (t : Terms) (openings : Histories) (r : Readings) (i : List ℕ) (L : H
       }
 
   -- nothing was done
-  pub part_none : (w : Option (List ℕ)) → L openings → w ≡ u → PartRun t openings r i L u w []
+  pub part_none : (w : Option (List ℕ)) → L opening → w ≡ u → PartRun t opening r i L u w []
   part_none w held still =
-      let one = run-exists t.rules t.options openings r (lines_for t.rules i) in
+      let one = run-exists t.rules t.options opening.histories opening r (lines_for t.rules i) in
       record {
         run = one.run;
         done = [];
@@ -75,13 +75,13 @@ module _ (t : Terms) (openings : Histories) (r : Readings) (i : List ℕ) (L : H
       }
 
   -- some lines were answered
-  abbrev pub part_answered : (H : State → Type 0) (rest : List Line) (count : ℕ) (w : Option (List ℕ)) → ((n : State) → H n → L n.histories) → Answered t first H (all_lines i) rest count u w → PartRun t openings r i L u w []
+  abbrev pub part_answered : (H : State → Type 0) (rest : List Line) (count : ℕ) (w : Option (List ℕ)) → ((n : State) → H n → L n.contents) → Answered t first H (all_lines i) rest count u w → PartRun t opening r i L u w []
   part_answered H rest count w told x =
-      let one = run-exists t.rules t.options openings r (lines_for t.rules i) in
+      let one = run-exists t.rules t.options opening.histories opening r (lines_for t.rules i) in
       let coming : List Line = up_to_stop t.rules rest in
-      let far : Goes t.rules t.options openings (whole t first (all_lines i) plain) (stand x.state [] [] coming count) x.steps
-      = subst (λ l. Goes t.rules t.options openings (stand first (leaders_of t.rules.pairs) [] l 0) (stand x.state [] [] coming count) x.steps) (sym (ap (up_to_stop t.rules) x.parts ∙ stop-behind t.rules x.taken rest x.going)) (x.goes coming openings) in
-      let later = Goes-after t.rules t.options openings (whole t first (all_lines i) plain) (stand x.state [] [] coming count) x.steps one.run far one.is in
+      let far : Goes t.rules t.options opening.histories (whole t first (all_lines i) plain) (stand x.state [] [] coming count) x.steps
+      = subst (λ l. Goes t.rules t.options opening.histories (stand first (leaders_of t.rules.pairs) [] l 0) (stand x.state [] [] coming count) x.steps) (sym (ap (up_to_stop t.rules) x.parts ∙ stop-behind t.rules x.taken rest x.going)) (x.goes coming opening.histories) in
+      let later = Goes-after t.rules t.options opening.histories (whole t first (all_lines i) plain) (stand x.state [] [] coming count) x.steps one.run far one.is in
       record {
         run = one.run;
         done = x.steps;
@@ -94,17 +94,17 @@ module _ (t : Terms) (openings : Histories) (r : Readings) (i : List ℕ) (L : H
       }
 
   -- all lines were answered
-  pub whole_answered : (H : State → Type 0) (count : ℕ) (w : Option (List ℕ)) → ((n : State) → H n → L n.histories) → (x : Came t (whole t first (all_lines i)) H u w (λ n. served [] count n))
-      → WholeRun t openings r i L u w (end.Ok (added_counts t.rules.names openings x.state.histories) count)
+  pub whole_answered : (H : State → Type 0) (count : ℕ) (w : Option (List ℕ)) → ((n : State) → H n → L n.contents) → (x : Came t (whole t first (all_lines i)) H u w (λ n. served [] count n))
+      → WholeRun t opening r i L u w (end.Ok (added_counts t.rules.names opening.histories x.state.contents.histories) count)
   whole_answered H count w told x = record {
     steps = x.steps;
-    is = Goes-end t.rules t.options openings (whole t first (all_lines i) plain) (served [] count x.state plain) x.steps (end.Ok (added_counts t.rules.names openings x.state.histories) count) (x.goes plain) refl;
+    is = Goes-end t.rules t.options opening.histories (whole t first (all_lines i) plain) (served [] count x.state plain) x.steps (end.Ok (added_counts t.rules.names opening.histories x.state.contents.histories) count) (x.goes plain) refl;
     held = subst L (sym (x.goes plain).left) (told x.state x.held);
     written = x.written;
   }
 
   -- all steps were made, and the end line isn't known
-  pub part_whole : (w : Option (List ℕ)) (e : End) → WholeRun t openings r i L u w e → PartRun t openings r i L u w []
+  pub part_whole : (w : Option (List ℕ)) (e : End) → WholeRun t opening r i L u w e → PartRun t opening r i L u w []
   part_whole w e x = record {
     run = record { steps = x.steps; end = e };
     done = x.steps;
@@ -118,7 +118,7 @@ module _ (t : Terms) (openings : Histories) (r : Readings) (i : List ℕ) (L : H
 
   module _ (unread : Option (List ℕ)) where
     -- the end of a run that a fault ended
-    pub fault_runs : (f : RunFault) (w : Option (List ℕ)) → Faulted t (whole t first (all_lines i)) f L u w → Runs t openings r i unread L u w (Ok (end_of f))
+    pub fault_runs : (f : RunFault) (w : Option (List ℕ)) → Faulted t (whole t first (all_lines i)) f L u w → Runs t opening r i unread L u w (Ok (end_of f))
     fault_runs (fault.Refused app leader id recordings code rule) w x = whole_of w (end.Refused app leader id recordings code rule) x
     fault_runs (fault.Turns app turns) w x = whole_of w (end.Turns app turns) x
     fault_runs (fault.Unreadable app id) w x = whole_of w (end.Unreadable app id) x
@@ -126,15 +126,15 @@ module _ (t : Terms) (openings : Histories) (r : Readings) (i : List ℕ) (L : H
     fault_runs fault.Recorder w x = part_of w [] x
     fault_runs fault.NoMemory w x = part_of w [] x
 
-    pub over_runs : (w : Option (List ℕ)) → Ended t (whole t first (all_lines i)) L u w end.Over → Runs t openings r i unread L u w (Ok end.Over)
+    pub over_runs : (w : Option (List ℕ)) → Ended t (whole t first (all_lines i)) L u w end.Over → Runs t opening r i unread L u w (Ok end.Over)
     over_runs w x = whole_of w end.Over x
 
-    pub sink_runs : (w : Option (List ℕ)) (f : Failed) → CutInText t (whole t first (all_lines i)) L u w → Runs t openings r i unread L u w (Err f)
+    pub sink_runs : (w : Option (List ℕ)) (f : Failed) → CutInText t (whole t first (all_lines i)) L u w → Runs t opening r i unread L u w (Err f)
     sink_runs w f x = (x.0, part_of w x.0 x.1)
 
     -- reading failed
-    pub read_runs : (H : State → Type 0) (lines : List Line) (left : List ℕ) (count : ℕ) (w : Option (List ℕ)) → ((n : State) → H n → L n.histories) → Answered t first H (all_lines i) lines count u w → Taken i count left → unread ≡ Some left
-        → Runs t openings r i unread L u w (Ok end.Input)
+    pub read_runs : (H : State → Type 0) (lines : List Line) (left : List ℕ) (count : ℕ) (w : Option (List ℕ)) → ((n : State) → H n → L n.contents) → Answered t first H (all_lines i) lines count u w → Taken i count left → unread ≡ Some left
+        → Runs t opening r i unread L u w (Ok end.Input)
     read_runs H lines left count w told x y is = (
       part_answered H lines count w told x,
       record {
@@ -145,25 +145,25 @@ module _ (t : Terms) (openings : Histories) (r : Readings) (i : List ℕ) (L : H
         parts = y.parts;
         unended = y.unended;
         ends = y.ends;
-        run = record { steps = x.steps; end = end.Ok (added_counts t.rules.names openings x.state.histories) count };
-        is = subst (λ l. IsRun t.rules t.options openings (stand first (leaders_of t.rules.pairs) [] l 0) (record { steps = x.steps; end = end.Ok (added_counts t.rules.names openings x.state.histories) count }))
+        run = record { steps = x.steps; end = end.Ok (added_counts t.rules.names opening.histories x.state.contents.histories) count };
+        is = subst (λ l. IsRun t.rules t.options opening.histories (stand first (leaders_of t.rules.pairs) [] l 0) (record { steps = x.steps; end = end.Ok (added_counts t.rules.names opening.histories x.state.contents.histories) count }))
             (sym (stop-behind t.rules x.taken [] x.going) ∙ ap (up_to_stop t.rules) (append-nil x.taken ∙ taken_lines MOST_LINE_BYTES MOST_INPUT_BYTES (pieces_of y.answered) (pieces_of (y.begun ++ left)) x.taken lines (sym x.parts ∙ ap (lines_of_pieces MOST_LINE_BYTES MOST_INPUT_BYTES) y.pieces) (sym x.counted ∙ sym y.number) x.within))
-            (Goes-end t.rules t.options openings (stand first (leaders_of t.rules.pairs) [] (x.taken ++ []) 0) (stand x.state [] [] [] count) x.steps (end.Ok (added_counts t.rules.names openings x.state.histories) count) (x.goes [] openings) refl);
+            (Goes-end t.rules t.options opening.histories (stand first (leaders_of t.rules.pairs) [] (x.taken ++ []) 0) (stand x.state [] [] [] count) x.steps (end.Ok (added_counts t.rules.names opening.histories x.state.contents.histories) count) (x.goes [] opening.histories) refl);
         steps = refl;
-        ended = (added_counts t.rules.names openings x.state.histories, count, refl);
+        ended = (added_counts t.rules.names opening.histories x.state.contents.histories, count, refl);
       },
     )
 
 -- the numbers of the end line are those of the run
-module _ (sys : System) (openings : Histories) (r : Readings) (i : List ℕ) (L : Histories → Type 0) (u : Option (List ℕ)) (unread : Option (List ℕ)) where
-  counted_runs : (added : List (Name × ℕ)) (count : ℕ) (w : Option (List ℕ)) (e : End) → WholeRun (terms_of sys) openings r i L u w (end.Ok added count) → CountsTold added count e → Runs (terms_of sys) openings r i unread L u w (Ok e)
-  counted_runs added count w e x (inl is) = subst (λ y. Runs (terms_of sys) openings r i unread L u w (Ok y)) (sym is) x
-  counted_runs added count w e x (inr (inl is)) = subst (λ y. Runs (terms_of sys) openings r i unread L u w (Ok y)) (sym is) (part_whole (terms_of sys) openings r i L u w (end.Ok added count) x)
-  counted_runs added count w e x (inr (inr is)) = subst (λ y. Runs (terms_of sys) openings r i unread L u w (Ok y)) (sym is) (part_whole (terms_of sys) openings r i L u w (end.Ok added count) x)
+module _ (sys : System) (opening : Contents) (r : Readings) (i : List ℕ) (L : Contents → Type 0) (u : Option (List ℕ)) (unread : Option (List ℕ)) where
+  counted_runs : (added : List (Name × ℕ)) (count : ℕ) (w : Option (List ℕ)) (e : End) → WholeRun (terms_of sys) opening r i L u w (end.Ok added count) → CountsTold added count e → Runs (terms_of sys) opening r i unread L u w (Ok e)
+  counted_runs added count w e x (inl is) = subst (λ y. Runs (terms_of sys) opening r i unread L u w (Ok y)) (sym is) x
+  counted_runs added count w e x (inr (inl is)) = subst (λ y. Runs (terms_of sys) opening r i unread L u w (Ok y)) (sym is) (part_whole (terms_of sys) opening r i L u w (end.Ok added count) x)
+  counted_runs added count w e x (inr (inr is)) = subst (λ y. Runs (terms_of sys) opening r i unread L u w (Ok y)) (sym is) (part_whole (terms_of sys) opening r i L u w (end.Ok added count) x)
 
-  pub end_runs : (H : State → Type 0) (count : ℕ) (w : Option (List ℕ)) (e : End) → AreEmpty (app_names sys) openings → ((n : State) → H n → L n.histories)
-      → Came (terms_of sys) (whole (terms_of sys) (state_of openings r) (all_lines i)) H u w (λ n. served [] count n)
-      → ((n : State) → H n → CountsTold (in_order (λ m. length (n.histories m)) (app_names sys)) count e) → Runs (terms_of sys) openings r i unread L u w (Ok e)
+  pub end_runs : (H : State → Type 0) (count : ℕ) (w : Option (List ℕ)) (e : End) → AreEmpty (app_names sys) opening.histories → ((n : State) → H n → L n.contents)
+      → Came (terms_of sys) (whole (terms_of sys) (state_of opening r) (all_lines i)) H u w (λ n. served [] count n)
+      → ((n : State) → H n → CountsTold (in_order (λ m. length (n.contents.histories m)) (app_names sys)) count e) → Runs (terms_of sys) opening r i unread L u w (Ok e)
   end_runs H count w e empty told x counts =
-      counted_runs (added_counts (names_of sys) openings x.state.histories) count w e (whole_answered (terms_of sys) openings r i L u H count w told x)
-      (subst (λ added. CountsTold added count e) (sym (counts-empty sys openings x.state.histories empty)) (counts x.state x.held))
+      counted_runs (added_counts (names_of sys) opening.histories x.state.contents.histories) count w e (whole_answered (terms_of sys) opening r i L u H count w told x)
+      (subst (λ added. CountsTold added count e) (sym (counts-empty sys opening.histories x.state.contents.histories empty)) (counts x.state x.held))

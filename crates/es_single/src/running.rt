@@ -1,12 +1,12 @@
 ghost use Rattle.std.specs.Prelude.{◌≡◌, ◌⊎◌, ◌≤◌, [], List, Some, Ok, IfOk, IfErr, IsErrOf, OnOk, OnErr, length};
 ghost use Rattle.es_model.specs.declared.event.Recording.{Recording};
 ghost use Rattle.es_model.specs.Causes.{Rose};
-ghost use Rattle.es_model.specs.History.{Histories};
 ghost use Rattle.es_model.specs.Rising.{with_item};
 ghost use Rattle.es_process.specs.Applications.{name_of, recorder_of};
+ghost use Rattle.es_process.specs.Contents.{Contents};
 ghost use Rattle.es_process.specs.Drains.{IsOnlyPair};
 ghost use Rattle.es_process.specs.Faults.{end_of};
-ghost use Rattle.es_process.specs.Standing.{Holds, HoldHistories, AllStay, SomeRose, names_in, AreDistinct, IsSame, MayFailToRead};
+ghost use Rattle.es_process.specs.Standing.{Holds, HoldContents, AllStay, SomeRose, names_in, AreDistinct, IsSame, MayFailToRead};
 ghost use Rattle.es_process.specs.SystemRules.{app_names, in_order};
 ghost use Rattle.es_single.specs.inner.Counts.{CountsTold, IsCounted};
 ghost use Rattle.es_single.specs.Limits.{limits, terms_of, TakesLines};
@@ -54,10 +54,10 @@ fn count_each<R: ProcessRecorder>(
 ) -> Result<(), RunFault>
     requires distinct { AreDistinct (names_in apps.old) }
     requires empty { counts.old ≡ [] }
-    ensures counted { (base h : Histories) → HoldHistories R.history base apps.old h → OnOk result (counts.new ≡ in_order (λ n. length (h n)) (names_in apps.old)) }
-    ensures holds { (base h : Histories) → HoldHistories R.history base apps.old h → HoldHistories R.history base apps.new h }
+    ensures counted { (base c : Contents) → HoldContents R.history R.snapshots base apps.old c → OnOk result (counts.new ≡ in_order (λ n. length (c.histories n)) (names_in apps.old)) }
+    ensures holds { (base c : Contents) → HoldContents R.history R.snapshots base apps.old c → HoldContents R.history R.snapshots base apps.new c }
     ensures faults { IfErr result MayFailToRead }
-    ensures same { AllStay R.snapshots R.faults apps.old apps.new }
+    ensures same { AllStay R.faults apps.old apps.new }
     ensures recorder { IsErrOf result RunFault.Recorder → SomeRose R.faults apps.old apps.new }
 {
     let mut place = apps.len();
@@ -74,10 +74,10 @@ fn count_each<R: ProcessRecorder>(
 // The end of a run whose lines were all answered, over applications that were empty.
 fn counted<R: ProcessRecorder>(alloc: Global, apps: &mut [Application<R>], lines: u64) -> End
     requires distinct { AreDistinct (names_in apps.old) }
-    ensures counts { (base h : Histories) → HoldHistories R.history base apps.old h → CountsTold (in_order (λ n. length (h n)) (names_in apps.old)) lines result }
+    ensures counts { (base c : Contents) → HoldContents R.history R.snapshots base apps.old c → CountsTold (in_order (λ n. length (c.histories n)) (names_in apps.old)) lines result }
     ensures counted { IsCounted result }
-    ensures holds { (base h : Histories) → HoldHistories R.history base apps.old h → HoldHistories R.history base apps.new h }
-    ensures same { AllStay R.snapshots R.faults apps.old apps.new }
+    ensures holds { (base c : Contents) → HoldContents R.history R.snapshots base apps.old c → HoldContents R.history R.snapshots base apps.new c }
+    ensures same { AllStay R.faults apps.old apps.new }
     ensures recorder { result ≡ End.Recorder → SomeRose R.faults apps.old apps.new }
 {
     let mut added = Counts::new(alloc);
@@ -136,11 +136,11 @@ pub fn run<S: Source, T: Sink, R: ProcessRecorder, C: Clock>(
     clock: &mut C,
 ) -> Result<End, Failed>
     requires pair { IsOnlyPair sys.now (names_in apps.old) pair.now }
-    ensures traced { OfInput (S.left lines.old) (S.left lines.new) (C.readings clock.old) (λ i rest r. (openings : Histories) → AreEmpty (app_names sys.now) openings
-        → Holds R.history R.capacity openings limits apps.old (Some r) (state_of openings r)
-        → Runs (terms_of sys.now) openings r i (Some rest) (HoldHistories R.history openings apps.new) (T.written out.old) (T.written out.new) result) }
+    ensures traced { OfInput (S.left lines.old) (S.left lines.new) (C.readings clock.old) (λ i rest r. (opening : Contents) → AreEmpty (app_names sys.now) opening.histories
+        → Holds R.history R.snapshots R.capacity opening limits apps.old (Some r) (state_of opening r)
+        → Runs (terms_of sys.now) opening r i (Some rest) (HoldContents R.history R.snapshots opening apps.new) (T.written out.old) (T.written out.new) result) }
     ensures running { IfOk result IsRunning }
-    ensures same { AllStay R.snapshots R.faults apps.old apps.new }
+    ensures same { AllStay R.faults apps.old apps.new }
     ensures out_later { T.faults out.old ≤ T.faults out.new }
 
     // At most one byte past the limit was taken from the lines.

@@ -3,18 +3,19 @@ ghost use Rattle.std.specs.List.{position_or_len};
 ghost use Rattle.std.specs.Str.{bytes_eq};
 ghost use Rattle.std.specs.Io.KnownBytes.{Appends};
 ghost use Rattle.es_model.specs.Causes.{HasCause, Rose};
-ghost use Rattle.es_model.specs.History.{Histories};
 ghost use Rattle.es_model.specs.Lines.{Line, text as text_line};
 ghost use Rattle.es_io.specs.Front.{AppendsFront};
 ghost use Rattle.es_io.specs.LinesLeft.{room_of, has_ended, source_of, fault_of, EndsRightly};
-ghost use Rattle.es_lines.specs.Requests.{IsOfSystem, asks, request_in};
+ghost use Rattle.es_lines.specs.Requests.{app_asked, asks, request_in};
 ghost use Rattle.es_process.specs.Answer.{Options};
+ghost use Rattle.es_process.specs.Contents.{Contents};
 ghost use Rattle.es_process.specs.Drains.{IsOnlyPair};
+ghost use Rattle.es_process.specs.Questions.{reply_to};
 ghost use Rattle.es_process.specs.SingleThread.{leaders_of};
-ghost use Rattle.es_process.specs.Standing.{State, Holds, HoldHistories, AllStay, SomeRose, names_in};
-ghost use Rattle.es_process.specs.SystemRules.{reply_to, rules_of};
+ghost use Rattle.es_process.specs.Standing.{State, Holds, HoldContents, AllStay, SomeRose, names_in};
+ghost use Rattle.es_process.specs.SystemRules.{rules_of};
 ghost use Rattle.es_process.specs.Terms.{terms};
-ghost use Rattle.es_single.specs.inner.Serves.{SaysIt, DrainsAfter, RepliesAndDrains, AnswersLine, TellsStop, TakesTurn, Begun, Serves, app_asked, prompted_by, SaysStop, SaysWord, IsSaying, IsFault, IsAnswering, MayStop};
+ghost use Rattle.es_single.specs.inner.Serves.{SaysIt, IsAsked, DrainsAfter, RepliesAndDrains, AnswersLine, TellsStop, TakesTurn, Begun, Serves, prompted_by, SaysStop, SaysWord, IsSaying, IsFault, IsAnswering, MayStop};
 ghost use Rattle.es_io.specs.Remains.{MayHold, MayHaveLeft, lines_from};
 ghost use Rattle.es_process.specs.Traced.{Traced};
 ghost use Rattle.es_single.specs.inner.Stays.{LinesStay};
@@ -83,10 +84,10 @@ fn reply_and_drain<T: Sink, R: ProcessRecorder, C: Clock>(
     reply: &Reply,
 ) -> Result<(), Stop>
     requires pair { IsOnlyPair sys.now (names_in apps.old) pair.now }
-    ensures replied { Traced (C.readings clock.old) (C.readings clock.new) (λ before after. (base : Histories) (options : Options) (s : State) → Holds R.history R.capacity base options apps.old before s
-        → RepliesAndDrains (terms (rules_of sys.now) options) s (Holds R.history R.capacity base options apps.new after) (prompted_by reply.now prompted.now) reply.now (HoldHistories R.history base apps.new)
+    ensures replied { Traced (C.readings clock.old) (C.readings clock.new) (λ before after. (base : Contents) (options : Options) (s : State) → Holds R.history R.snapshots R.capacity base options apps.old before s
+        → RepliesAndDrains (terms (rules_of sys.now) options) s (Holds R.history R.snapshots R.capacity base options apps.new after) (prompted_by reply.now prompted.now) reply.now (HoldContents R.history R.snapshots base apps.new)
         (T.written out.old) (T.written out.new) result) }
-    ensures same { AllStay R.snapshots R.faults apps.old apps.new }
+    ensures same { AllStay R.faults apps.old apps.new }
     ensures out_later { T.faults out.old ≤ T.faults out.new }
     ensures sink { IsErrOf result Stop.Sink → Rose (T.faults out.old) (T.faults out.new) }
     ensures recorder { IsErrOf result (Stop.Fault RunFault.Recorder) → SomeRose R.faults apps.old apps.new }
@@ -109,10 +110,10 @@ fn drain_after<R: ProcessRecorder, C: Clock>(
     reply: &Reply,
 ) -> Result<(), Stop>
     requires pair { IsOnlyPair sys.now (names_in apps.old) pair.now }
-    ensures drained { Traced (C.readings clock.old) (C.readings clock.new) (λ before after. (base : Histories) (options : Options) (s : State) (u : Option (List ℕ)) → Holds R.history R.capacity base options apps.old before s
-        → DrainsAfter (terms (rules_of sys.now) options) s (Holds R.history R.capacity base options apps.new after) (prompted_by reply.now prompted.now) (HoldHistories R.history base apps.new) u result) }
+    ensures drained { Traced (C.readings clock.old) (C.readings clock.new) (λ before after. (base : Contents) (options : Options) (s : State) (u : Option (List ℕ)) → Holds R.history R.snapshots R.capacity base options apps.old before s
+        → DrainsAfter (terms (rules_of sys.now) options) s (Holds R.history R.snapshots R.capacity base options apps.new after) (prompted_by reply.now prompted.now) (HoldContents R.history R.snapshots base apps.new) u result) }
     ensures faults { IfErr result IsFault }
-    ensures same { AllStay R.snapshots R.faults apps.old apps.new }
+    ensures same { AllStay R.faults apps.old apps.new }
     ensures recorder { IsErrOf result (Stop.Fault RunFault.Recorder) → SomeRose R.faults apps.old apps.new }
 {
     match reply {
@@ -146,10 +147,12 @@ fn drain_after<R: ProcessRecorder, C: Clock>(
             next: _,
         } => Ok(()),
         Reply::Tracking { position: _ } => Ok(()),
+        Reply::Snapshot { version: _ } => Ok(()),
         Reply::Sync => Ok(()),
         Reply::Stop => Ok(()),
         Reply::NotFound => Ok(()),
         Reply::Section => Ok(()),
+        Reply::Unchanged { version: _ } => Ok(()),
     }
 }
 
@@ -175,6 +178,7 @@ fn app_asked(request: &Request) -> Option<&Text>
         } => Some(app),
         Request::Log { app, section: _ } => Some(app),
         Request::Tracking { app, leader: _ } => Some(app),
+        Request::Snapshot { app, id: _ } => Some(app),
         Request::Sync => None,
         Request::Stop => None,
     }
@@ -193,11 +197,11 @@ fn answer_app<T: Sink, R: ProcessRecorder, C: Clock>(
 ) -> Result<(), Stop>
     requires pair { IsOnlyPair sys.now (names_in apps.old) pair.now }
     requires about { app_asked request.now ≡ Some app.now }
-    requires declared { IsOfSystem sys.now request.now }
-    ensures answered { Traced (C.readings clock.old) (C.readings clock.new) (λ before after. (base : Histories) (options : Options) (s : State) (line : List ℕ) → request_in sys.now line ≡ asks request.now → Holds R.history R.capacity base options apps.old before s
-        → AnswersLine (terms (rules_of sys.now) options) s (Holds R.history R.capacity base options apps.new after) (text_line line) (HoldHistories R.history base apps.new)
+    requires asked { IsAsked sys.now request.now }
+    ensures answered { Traced (C.readings clock.old) (C.readings clock.new) (λ before after. (base : Contents) (options : Options) (s : State) (line : List ℕ) → request_in sys.now line ≡ asks request.now → Holds R.history R.snapshots R.capacity base options apps.old before s
+        → AnswersLine (terms (rules_of sys.now) options) s (Holds R.history R.snapshots R.capacity base options apps.new after) (text_line line) (HoldContents R.history R.snapshots base apps.new)
         (T.written out.old) (T.written out.new) result) }
-    ensures same { AllStay R.snapshots R.faults apps.old apps.new }
+    ensures same { AllStay R.faults apps.old apps.new }
     ensures out_later { T.faults out.old ≤ T.faults out.new }
     ensures sink { IsErrOf result Stop.Sink → Rose (T.faults out.old) (T.faults out.new) }
     ensures recorder { IsErrOf result (Stop.Fault RunFault.Recorder) → SomeRose R.faults apps.old apps.new }
@@ -257,12 +261,12 @@ fn answer_request<T: Sink, R: ProcessRecorder, C: Clock>(
     request: &Request,
 ) -> Result<(), Stop>
     requires pair { IsOnlyPair sys.now (names_in apps.old) pair.now }
-    requires declared { IsOfSystem sys.now request.now }
-    ensures answered { Traced (C.readings clock.old) (C.readings clock.new) (λ before after. (base : Histories) (options : Options) (s : State) (line : List ℕ) → request_in sys.now line ≡ asks request.now → Holds R.history R.capacity base options apps.old before s
-        → AnswersLine (terms (rules_of sys.now) options) s (Holds R.history R.capacity base options apps.new after) (text_line line) (HoldHistories R.history base apps.new)
+    requires asked { IsAsked sys.now request.now }
+    ensures answered { Traced (C.readings clock.old) (C.readings clock.new) (λ before after. (base : Contents) (options : Options) (s : State) (line : List ℕ) → request_in sys.now line ≡ asks request.now → Holds R.history R.snapshots R.capacity base options apps.old before s
+        → AnswersLine (terms (rules_of sys.now) options) s (Holds R.history R.snapshots R.capacity base options apps.new after) (text_line line) (HoldContents R.history R.snapshots base apps.new)
         (T.written out.old) (T.written out.new) result) }
     ensures tells { (line : List ℕ) → request_in sys.now line ≡ asks request.now → TellsStop (rules_of sys.now) (text_line line) result }
-    ensures same { AllStay R.snapshots R.faults apps.old apps.new }
+    ensures same { AllStay R.faults apps.old apps.new }
     ensures out_later { T.faults out.old ≤ T.faults out.new }
     ensures sink { IsErrOf result Stop.Sink → Rose (T.faults out.old) (T.faults out.new) }
     ensures recorder { IsErrOf result (Stop.Fault RunFault.Recorder) → SomeRose R.faults apps.old apps.new }
@@ -301,11 +305,11 @@ fn answer_line<T: Sink, R: ProcessRecorder, C: Clock>(
     line: &[u8],
 ) -> Result<(), Stop>
     requires pair { IsOnlyPair sys.now (names_in apps.old) pair.now }
-    ensures answered { Traced (C.readings clock.old) (C.readings clock.new) (λ before after. (base : Histories) (options : Options) (s : State) → Holds R.history R.capacity base options apps.old before s
-        → AnswersLine (terms (rules_of sys.now) options) s (Holds R.history R.capacity base options apps.new after) (text_line line.now) (HoldHistories R.history base apps.new)
+    ensures answered { Traced (C.readings clock.old) (C.readings clock.new) (λ before after. (base : Contents) (options : Options) (s : State) → Holds R.history R.snapshots R.capacity base options apps.old before s
+        → AnswersLine (terms (rules_of sys.now) options) s (Holds R.history R.snapshots R.capacity base options apps.new after) (text_line line.now) (HoldContents R.history R.snapshots base apps.new)
         (T.written out.old) (T.written out.new) result) }
     ensures tells { TellsStop (rules_of sys.now) (text_line line.now) result }
-    ensures same { AllStay R.snapshots R.faults apps.old apps.new }
+    ensures same { AllStay R.faults apps.old apps.new }
     ensures out_later { T.faults out.old ≤ T.faults out.new }
     ensures sink { IsErrOf result Stop.Sink → Rose (T.faults out.old) (T.faults out.new) }
     ensures recorder { IsErrOf result (Stop.Fault RunFault.Recorder) → SomeRose R.faults apps.old apps.new }
@@ -330,8 +334,8 @@ fn turn<S: Source, T: Sink, R: ProcessRecorder, C: Clock>(
     requires clear { fault_of lines.old ≡ None }
     requires ends { EndsRightly S.left lines.old }
     requires pair { IsOnlyPair sys.now (names_in apps.old) pair.now }
-    ensures turned { LinesTraced S.left lines.old lines.new (C.readings clock.old) (C.readings clock.new) (λ a b before after. ((base : Histories) (options : Options) (s : State) → Holds R.history R.capacity base options apps.old before s
-        → TakesTurn (terms (rules_of sys.now) options) s (Holds R.history R.capacity base options apps.new after) (lines_from lines.old a) (lines_from lines.new b) (HoldHistories R.history base apps.new)
+    ensures turned { LinesTraced S.left lines.old lines.new (C.readings clock.old) (C.readings clock.new) (λ a b before after. ((base : Contents) (options : Options) (s : State) → Holds R.history R.snapshots R.capacity base options apps.old before s
+        → TakesTurn (terms (rules_of sys.now) options) s (Holds R.history R.snapshots R.capacity base options apps.new after) (lines_from lines.old a) (lines_from lines.new b) (HoldContents R.history R.snapshots base apps.new)
         (T.written out.old) (T.written out.new) result)
         × OnOk result (UsesSome a b (has_ended lines.new))
         × (IsErrOf result Stop.Read → LeavesUnended a b)) }
@@ -341,7 +345,7 @@ fn turn<S: Source, T: Sink, R: ProcessRecorder, C: Clock>(
     ensures room { OnOk result (room_of lines.new < room_of lines.old) }
     ensures clear { OnOk result (fault_of lines.new ≡ None) }
     ensures out_later { T.faults out.old ≤ T.faults out.new }
-    ensures same { AllStay R.snapshots R.faults apps.old apps.new }
+    ensures same { AllStay R.faults apps.old apps.new }
     ensures read { IsErrOf result Stop.Read → Rose (S.faults (source_of lines.old).now) (S.faults (source_of lines.new).now) }
     ensures sink { IsErrOf result Stop.Sink → Rose (T.faults out.old) (T.faults out.new) }
     ensures recorder { IsErrOf result (Stop.Fault RunFault.Recorder) → SomeRose R.faults apps.old apps.new }
@@ -370,14 +374,14 @@ fn answer_all<S: Source, T: Sink, R: ProcessRecorder, C: Clock>(
     requires ends { EndsRightly S.left lines.old }
     requires room { room_of lines.old < 2 ^ 63 }
     requires pair { IsOnlyPair sys.now (names_in apps.old) pair.now }
-    ensures answered { LinesTraced S.left lines.old lines.new (C.readings clock.old) (C.readings clock.new) (λ a b before after. ((base : Histories) (options : Options) (s n : State) (u : Option (List ℕ)) → Begun (terms (rules_of sys.now) options) s n u (T.written out.old) → Holds R.history R.capacity base options apps.old before n
-        → Serves (terms (rules_of sys.now) options) s (Holds R.history R.capacity base options apps.new after) (lines_from lines.old a) result.0 result.1 (HoldHistories R.history base apps.new) u (T.written out.new))
+    ensures answered { LinesTraced S.left lines.old lines.new (C.readings clock.old) (C.readings clock.new) (λ a b before after. ((base : Contents) (options : Options) (s n : State) (u : Option (List ℕ)) → Begun (terms (rules_of sys.now) options) s n u (T.written out.old) → Holds R.history R.snapshots R.capacity base options apps.old before n
+        → Serves (terms (rules_of sys.now) options) s (Holds R.history R.snapshots R.capacity base options apps.new after) (lines_from lines.old a) result.0 result.1 (HoldContents R.history R.snapshots base apps.new) u (T.written out.new))
         × (result.0 ≡ Stop.Read → Taken a result.1 b)) }
     ensures count { result.1 < 2 ^ 63 }
     ensures left { result.0 ≡ Stop.Read → (b : List ℕ) → MayHold (S.left (source_of lines.new).now) b → MayHaveLeft S.left lines.new b }
     ensures lines { LinesStay S.left S.faults lines.old lines.new }
     ensures out_later { T.faults out.old ≤ T.faults out.new }
-    ensures same { AllStay R.snapshots R.faults apps.old apps.new }
+    ensures same { AllStay R.faults apps.old apps.new }
     ensures read { result.0 ≡ Stop.Read → Rose (S.faults (source_of lines.old).now) (S.faults (source_of lines.new).now) }
     ensures sink { result.0 ≡ Stop.Sink → Rose (T.faults out.old) (T.faults out.new) }
     ensures recorder { result.0 ≡ Stop.Fault RunFault.Recorder → SomeRose R.faults apps.old apps.new }
@@ -408,15 +412,15 @@ pub fn serve<S: Source, T: Sink, R: ProcessRecorder, C: Clock>(
     requires room { room_of lines.old < 2 ^ 63 }
     requires pair { IsOnlyPair sys.now (names_in apps.old) pair.now }
     requires prompted { prompted.now ≡ leaders_of (rules_of sys.now).pairs }
-    ensures served { LinesTraced S.left lines.old lines.new (C.readings clock.old) (C.readings clock.new) (λ a b before after. ((base : Histories) (options : Options) (s : State) → Holds R.history R.capacity base options apps.old before s
-        → Serves (terms (rules_of sys.now) options) s (Holds R.history R.capacity base options apps.new after) (lines_from lines.old a) result.0 result.1 (HoldHistories R.history base apps.new)
+    ensures served { LinesTraced S.left lines.old lines.new (C.readings clock.old) (C.readings clock.new) (λ a b before after. ((base : Contents) (options : Options) (s : State) → Holds R.history R.snapshots R.capacity base options apps.old before s
+        → Serves (terms (rules_of sys.now) options) s (Holds R.history R.snapshots R.capacity base options apps.new after) (lines_from lines.old a) result.0 result.1 (HoldContents R.history R.snapshots base apps.new)
         (T.written out.old) (T.written out.new))
         × (result.0 ≡ Stop.Read → Taken a result.1 b)) }
     ensures count { result.1 < 2 ^ 63 }
     ensures left { result.0 ≡ Stop.Read → (b : List ℕ) → MayHold (S.left (source_of lines.new).now) b → MayHaveLeft S.left lines.new b }
     ensures lines { LinesStay S.left S.faults lines.old lines.new }
     ensures out_later { T.faults out.old ≤ T.faults out.new }
-    ensures same { AllStay R.snapshots R.faults apps.old apps.new }
+    ensures same { AllStay R.faults apps.old apps.new }
     ensures read { result.0 ≡ Stop.Read → Rose (S.faults (source_of lines.old).now) (S.faults (source_of lines.new).now) }
     ensures sink { result.0 ≡ Stop.Sink → Rose (T.faults out.old) (T.faults out.new) }
     ensures recorder { result.0 ≡ Stop.Fault RunFault.Recorder → SomeRose R.faults apps.old apps.new }

@@ -40,6 +40,14 @@ fn aggregate(alloc: Global, app: &Text, id: Uuid, version: Option<u64>) -> anyho
     told.end()
 }
 
+// An aggregate of an application, whose snapshot is asked for.
+fn snapshot(alloc: Global, app: &Text, id: Uuid) -> anyhow::Result<Value> {
+    let mut told = Members::new(alloc);
+    told.put("app", app.as_str());
+    told.put_id("snapshot", id);
+    told.end()
+}
+
 // Something of an application that a text says.
 fn of_app(alloc: Global, app: &Text, name: &str, text: &Text) -> anyhow::Result<Value> {
     let mut told = Members::new(alloc);
@@ -61,6 +69,7 @@ fn asked(alloc: Global, request: &Request) -> anyhow::Result<Value> {
         Request::Get { app, id, version } => aggregate(alloc, app, *id, *version),
         Request::Log { app, section } => of_app(alloc, app, "log", section),
         Request::Tracking { app, leader } => of_app(alloc, app, "tracking", leader),
+        Request::Snapshot { app, id } => snapshot(alloc, app, *id),
         Request::Sync => word(alloc, "sync"),
         Request::Stop => word(alloc, "stop"),
     }

@@ -95,6 +95,12 @@ fn reply(alloc: Global, name: &str, case: &Value) -> anyhow::Result<Reply> {
         "tracking" => Ok(Reply::Tracking {
             position: given::number(case, "position")?,
         }),
+        "snapshot" => Ok(Reply::Snapshot {
+            version: given::number(case, "version")?,
+        }),
+        "unchanged" => Ok(Reply::Unchanged {
+            version: given::number(case, "version")?,
+        }),
         _ => bare_reply(name).context("no such reply"),
     }
 }

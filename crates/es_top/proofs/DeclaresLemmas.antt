@@ -5,6 +5,7 @@ use Rattle.std.specs.Prelude.{String}
 use Rattle.std.specs.Str.{bytes_eq}
 use Rattle.es_model.specs.declared.declaration.Code.{Code}
 use Rattle.es_model.specs.declared.declaration.System.{System}
+use Rattle.es_model.specs.declared.snapshot.Snapshot.{Snapshot}
 use Rattle.es_model.specs.History.{Histories}
 use Rattle.es_model.specs.Values.{Name}
 use Rattle.es_expr.specs.Checked.{IsCheckedSystem}
@@ -15,6 +16,7 @@ use Rattle.es_decl.specs.Readings.{Reading}
 use Rattle.es_decl.specs.declared.builtin.TheConstants.{SAMPLE}
 use Rattle.es_decl.proofs.CheckedLemmas.{declared-checked}
 use Rattle.es_lines.specs.declared.ends.End.TheVariants as end
+use Rattle.es_process.specs.Contents.{Contents}
 use Rattle.es_top.specs.declared.loading.LoadFault.{LoadFault}
 use Rattle.es_top.specs.declared.loading.LoadFault.TheVariants.{Declaration, Failed, NoMemory}
 use Rattle.es_top.specs.declared.status.Status.{Status}
@@ -23,7 +25,7 @@ use Rattle.es_top.specs.Declares.{IsEndUnasked, IsNotAsked, declares, declares_f
 use Rattle.es_single.specs.Ends.{Sort, itself, stopped, unbuilt, unbegun, sort_of}
 use Rattle.es_top.specs.Ends.{ended, end_of_load, Writes}
 use Rattle.es_top.specs.Loads.{Loads}
-use Rattle.es_top.specs.Top.{Ran}
+use Rattle.es_top.specs.Top.{Ran, StoresTell}
 use Rattle.es_top.specs.Words.{system_in}
 use Rattle.es_top.proofs.EndLemmas.{ran_starved, ran_unread, told_as, writes_so}
 
@@ -75,12 +77,12 @@ module _ (docs : Option NamedDocuments) (words : List (String Global)) (name : N
   loaded_same mine sys loads is = let same : Ok sys ≡ Ok mine = loads.is (Ok sys) (named (Some (Ok sys)) is) in cc same
 
   -- the system couldn't be loaded, though the words ask for one: nothing was done
-  pub fault_ran : (L S D : Type 0) (fault : LoadFault) → (fault ≡ Failed → D) → Loads docs name (Err fault) → (sys : System) → declares docs words ≡ Some (Ok sys) → (i : List ℕ) (unread : List ℕ) (r : Readings) (h : Histories) (new : Option Histories) (u w : Option (List ℕ)) (s : Status)
-      → Writes (end_of_load fault) u w (ended s) → new ≡ Some h → Ran L S D sys i unread r h new u w s
-  fault_ran L S D (Declaration code path) failed loads sys is i unread r h new u w s writes same =
+  pub fault_ran : (L S D : Type 0) (fault : LoadFault) → (fault ≡ Failed → D) → Loads docs name (Err fault) → (sys : System) → declares docs words ≡ Some (Ok sys) → (i : List ℕ) (unread : List ℕ) (r : Readings) (h : Contents) (new : Option Histories) (kept : Option (Name → List Snapshot)) (u w : Option (List ℕ)) (s : Status)
+      → Writes (end_of_load fault) u w (ended s) → StoresTell h new kept → Ran L S D sys i unread r h new kept u w s
+  fault_ran L S D (Declaration code path) failed loads sys is i unread r h new kept u w s writes same =
       let clash : Ok sys ≡ Err (code, path) = loads.is (Ok sys) (named (Some (Ok sys)) is) in absurd (cc clash)
-  fault_ran L S D Failed failed loads sys is i unread r h new u w s writes same = ran_unread L S D (failed refl) sys (name_checked docs name sys (named (Some (Ok sys)) is)) i unread r h new u w s same writes
-  fault_ran L S D NoMemory failed loads sys is i unread r h new u w s writes same = ran_starved L S D sys (name_checked docs name sys (named (Some (Ok sys)) is)) i unread r h new u w s same writes
+  fault_ran L S D Failed failed loads sys is i unread r h new kept u w s writes same = ran_unread L S D (failed refl) sys (name_checked docs name sys (named (Some (Ok sys)) is)) i unread r h new kept u w s same writes
+  fault_ran L S D NoMemory failed loads sys is i unread r h new kept u w s writes same = ran_starved L S D sys (name_checked docs name sys (named (Some (Ok sys)) is)) i unread r h new kept u w s same writes
 
   -- the end of a system that couldn't be loaded
   pub fault_unasked : (failing : Type 0) (fault : LoadFault) → (fault ≡ Failed → failing) → Loads docs name (Err fault) → IsEndUnasked docs words failing (end_of_load fault)

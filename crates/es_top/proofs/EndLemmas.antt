@@ -5,6 +5,7 @@ use Rattle.std.proofs.lemmas.Bool.Decides.{nat_tests}
 use Rattle.es_model.specs.declared.declaration.Code.{Code}
 use Rattle.es_model.specs.declared.declaration.System.{System}
 use Rattle.es_model.specs.declared.event.Recording.{Recording}
+use Rattle.es_model.specs.declared.snapshot.Snapshot.{Snapshot}
 use Rattle.es_model.specs.History.{Histories, log}
 use Rattle.es_model.specs.Tracking.{tracked_in}
 use Rattle.es_model.specs.Values.{Name}
@@ -15,6 +16,7 @@ use Rattle.es_decl.proofs.CheckedSystemLemmas.{pair-declared}
 use Rattle.es_lines.specs.declared.ends.End.{End}
 use Rattle.es_lines.specs.declared.ends.End.TheVariants as end
 use Rattle.es_lines.specs.Texts.{end_text, is_fixed}
+use Rattle.es_process.specs.Contents.{Contents}
 use Rattle.es_process.specs.Reached.{ahead, tracked_of, last_of}
 use Rattle.es_process.specs.SingleThread.{Step, Run, left_by, written_by, as_line}
 use Rattle.es_process.specs.Standing.{IsFrontOf}
@@ -32,9 +34,8 @@ use Rattle.es_top.specs.declared.status.Status.{Status}
 use Rattle.es_top.specs.declared.status.Status.TheVariants as status
 use Rattle.es_single.specs.Ends.{Sort, itself, stopped, in_lines, unbuilt, unbegun, sort_of}
 use Rattle.es_top.specs.Ends.{ended, end_of_load, status_of_load, sorted, code_of, IsToldAs, Writes, WritesLine}
-use Rattle.es_top.specs.Opened.{IsBuilt, IsNotBuilt}
 use Rattle.es_top.specs.inner.Ran.{Stands}
-use Rattle.es_top.specs.Top.{Closes, Follows, FollowsBy, IsDone, LeavesConsistent, Made, Ran}
+use Rattle.es_top.specs.Top.{Closes, Follows, FollowsBy, IsDone, LeavesConsistent, Made, Ran, StoresTell}
 use Rattle.es_top.proofs.TopLemmas.{made_none}
 
 -- over applications that hold nothing no follower is ahead of its leader
@@ -90,8 +91,8 @@ told_as e told (inl is) not = is
 told_as e told (inr is) not = absurd (not is.0)
 
 -- where some first steps of a run were made, all that is said of it holds
-module _ (L S D : Type 0) (sys : System) (checked : IsCheckedSystem sys) (i : List ℕ) (unread : List ℕ) (r : Readings) (h : Histories) (new : Option Histories) (u w : Option (List ℕ)) (s : Status) (tail : List ℕ)
-    (x : Made sys i r h (λ k. new ≡ Some k) u w tail) (closes : Closes L S D sys i unread r h x.run x.done x.rest tail (ended s)) where
+module _ (L S D : Type 0) (sys : System) (checked : IsCheckedSystem sys) (i : List ℕ) (unread : List ℕ) (r : Readings) (h : Contents) (new : Option Histories) (kept : Option (Name → List Snapshot)) (u w : Option (List ℕ)) (s : Status) (tail : List ℕ)
+    (x : Made sys i r h (λ k. StoresTell k new kept) u w tail) (closes : Closes L S D sys i unread r h x.run x.done x.rest tail (ended s)) where
   ends_well : (added : List (Name × ℕ)) (count : ℕ) → s ≡ status.Ok added count → Follows L S D sys i unread r h x.run x.done x.rest (end.Ok added count)
   ends_well added count is = let at : Closes L S D sys i unread r h x.run x.done x.rest tail (ended (status.Ok added count)) = subst (λ y. Closes L S D sys i unread r h x.run x.done x.rest tail (ended y)) is closes in at.1
 
@@ -102,17 +103,17 @@ module _ (L S D : Type 0) (sys : System) (checked : IsCheckedSystem sys) (i : Li
       by (status.Ok added count) is zero = (ends_well added count is).1
       by y is zero = absurd (cc zero)
 
-  done_well : (added : List (Name × ℕ)) (count : ℕ) → s ≡ status.Ok added count → IsDone sys i h (left_by x.done h) added count
+  done_well : (added : List (Name × ℕ)) (count : ℕ) → s ≡ status.Ok added count → IsDone sys i h.histories (left_by x.done h).histories added count
   done_well added count is =
       let follows : Follows L S D sys i unread r h x.run x.done x.rest (end.Ok added count) = ends_well added count is in
       let counts = run-lines (rules_of sys) (declared-lawful sys checked) limits h r (lines_for (rules_of sys) i) x.run x.is x.done x.rest x.parts follows.1 added count follows.2 in
       record {
-        reached = run-reached (rules_of sys) limits h r (lines_for (rules_of sys) i) x.run x.is (none_ahead h (app_names sys) follows.0.1 (rules_of sys).pairs (λ p. pair-declared sys p checked)) x.done x.rest x.parts follows.1 added count follows.2;
+        reached = run-reached (rules_of sys) limits h r (lines_for (rules_of sys) i) x.run x.is (none_ahead h.histories (app_names sys) follows.0.1 (rules_of sys).pairs (λ p. pair-declared sys p checked)) x.done x.rest x.parts follows.1 added count follows.2;
         all = counts.1 ∙ counts.0;
         counts = counts.2;
       }
 
-  pub ran_of : Ran L S D sys i unread r h new u w s
+  pub ran_of : Ran L S D sys i unread r h new kept u w s
   ran_of = record {
     tail = tail;
     made = x;
@@ -123,7 +124,7 @@ module _ (L S D : Type 0) (sys : System) (checked : IsCheckedSystem sys) (i : Li
   }
 
 -- an end after some steps, by what failed
-by_failing : (L S D : Type 0) (sys : System) (i : List ℕ) (unread : List ℕ) (r : Readings) (h : Histories) (run : Run) (done rest : List Step) (e : End) → (e ≡ end.Input → L) → (e ≡ end.Recorder → S)
+by_failing : (L S D : Type 0) (sys : System) (i : List ℕ) (unread : List ℕ) (r : Readings) (h : Contents) (run : Run) (done rest : List Step) (e : End) → (e ≡ end.Input → L) → (e ≡ end.Recorder → S)
     → Follows (Unit {0}) (Unit {0}) ⊥ sys i unread r h run done rest e → Follows L S D sys i unread r h run done rest e
 by_failing L S D sys i unread r h run done rest end.Input lines stores x = (lines refl, x.1)
 by_failing L S D sys i unread r h run done rest end.Recorder lines stores x = stores
@@ -135,9 +136,9 @@ by_failing L S D sys i unread r h run done rest end.System lines stores x = absu
 by_failing L S D sys i unread r h run done rest e lines stores x = x
 
 -- the run came to an end, and its line was written, or a front of it, or that memory ran out
-module _ (L S D : Type 0) (sys : System) (checked : IsCheckedSystem sys) (i : List ℕ) (unread : List ℕ) (r : Readings) (h : Histories) (new : Option Histories) (u v w : Option (List ℕ)) where
+module _ (L S D : Type 0) (sys : System) (checked : IsCheckedSystem sys) (i : List ℕ) (unread : List ℕ) (r : Readings) (h : Contents) (new : Option Histories) (kept : Option (Name → List Snapshot)) (u v w : Option (List ℕ)) where
   -- what was written after the run
-  abbrev then_tail : (tail : List ℕ) → Made sys i r h (λ k. new ≡ Some k) u v [] → Appends v w tail → Made sys i r h (λ k. new ≡ Some k) u w tail
+  abbrev then_tail : (tail : List ℕ) → Made sys i r h (λ k. StoresTell k new kept) u v [] → Appends v w tail → Made sys i r h (λ k. StoresTell k new kept) u w tail
   then_tail tail x line = record {
     run = x.run;
     done = x.done;
@@ -153,24 +154,24 @@ module _ (L S D : Type 0) (sys : System) (checked : IsCheckedSystem sys) (i : Li
   follows_told run done rest e told (inl is) follows = subst (Follows L S D sys i unread r h run done rest) (sym is) follows
   follows_told run done rest e told (inr is) follows = subst (Follows L S D sys i unread r h run done rest) (sym is.0) (λ same. absurd (cc same))
 
-  pub ran_end : (e : End) (s : Status) → Writes e v w (ended s) → (x : Made sys i r h (λ k. new ≡ Some k) u v []) → Follows L S D sys i unread r h x.run x.done x.rest e → Ran L S D sys i unread r h new u w s
+  pub ran_end : (e : End) (s : Status) → Writes e v w (ended s) → (x : Made sys i r h (λ k. StoresTell k new kept) u v []) → Follows L S D sys i unread r h x.run x.done x.rest e → Ran L S D sys i unread r h new kept u w s
   ran_end e s writes x follows = by (ended s) refl writes
     where
-      by : (o : Option End) → ended s ≡ o → Writes e v w o → Ran L S D sys i unread r h new u w s
+      by : (o : Option End) → ended s ≡ o → Writes e v w o → Ran L S D sys i unread r h new kept u w s
       by (Some told) is y =
           let line : List ℕ = as_line (end_text told) in
-          ran_of L S D sys checked i unread r h new u w s line (then_tail line x y.1) (subst (Closes L S D sys i unread r h x.run x.done x.rest line) (sym is) (refl, follows_told x.run x.done x.rest e told y.0 follows))
+          ran_of L S D sys checked i unread r h new kept u w s line (then_tail line x y.1) (subst (Closes L S D sys i unread r h x.run x.done x.rest line) (sym is) (refl, follows_told x.run x.done x.rest e told y.0 follows))
       by None is y =
           let front : List ℕ = y.2.front in
-          ran_of L S D sys checked i unread r h new u w s front (then_tail front x y.2.written) (subst (Closes L S D sys i unread r h x.run x.done x.rest front) (sym is) (inr (y.0, y.2.rest, follows_told x.run x.done x.rest e y.0 y.1 follows, y.2.parts)))
+          ran_of L S D sys checked i unread r h new kept u w s front (then_tail front x y.2.written) (subst (Closes L S D sys i unread r h x.run x.done x.rest front) (sym is) (inr (y.0, y.2.rest, follows_told x.run x.done x.rest e y.0 y.1 follows, y.2.parts)))
 
   -- the same of what stood before the end line
-  pub ran_stood : (e : End) (s : Status) → (e ≡ end.Input → L) → (e ≡ end.Recorder → S) → Writes e v w (ended s) → Stands sys i unread r h (λ k. new ≡ Some k) u v (Ok e) → Ran L S D sys i unread r h new u w s
+  pub ran_stood : (e : End) (s : Status) → (e ≡ end.Input → L) → (e ≡ end.Recorder → S) → Writes e v w (ended s) → Stands sys i unread r h (λ k. StoresTell k new kept) u v (Ok e) → Ran L S D sys i unread r h new kept u w s
   ran_stood e s lines stores writes x = ran_end e s writes x.0 (by_failing L S D sys i unread r h x.0.run x.0.done x.0.rest e lines stores x.1)
 
 -- where the document was read, its failing isn't needed
-pub ran_weaker : (L S D : Type 0) (sys : System) (i : List ℕ) (unread : List ℕ) (r : Readings) (h : Histories) (new : Option Histories) (u w : Option (List ℕ)) (s : Status) → Ran L S ⊥ sys i unread r h new u w s → Ran L S D sys i unread r h new u w s
-ran_weaker L S D sys i unread r h new u w s x = record {
+pub ran_weaker : (L S D : Type 0) (sys : System) (i : List ℕ) (unread : List ℕ) (r : Readings) (h : Contents) (new : Option Histories) (kept : Option (Name → List Snapshot)) (u w : Option (List ℕ)) (s : Status) → Ran L S ⊥ sys i unread r h new kept u w s → Ran L S D sys i unread r h new kept u w s
+ran_weaker L S D sys i unread r h new kept u w s x = record {
   tail = x.tail;
   made = x.made;
   closes = by (ended s) x.closes;
@@ -191,37 +192,21 @@ ran_weaker L S D sys i unread r h new u w s x = record {
     by None (inl front) = inl front
     by None (inr y) = inr (y.0, y.1, weaker (sort_of y.0) y.0 y.2, y.3)
 
--- what its status says of a run
-pub ran_sorted : (L S D : Type 0) (sys : System) (i : List ℕ) (unread : List ℕ) (r : Readings) (h : Histories) (new : Option Histories) (u w : Option (List ℕ)) (s : Status) (x : Ran L S D sys i unread r h new u w s) (k : Sort) → sorted s ≡ Some k
-    → (e : End) × FollowsBy L S D sys i unread r h x.made.run x.made.done x.made.rest k e
-ran_sorted L S D sys i unread r h new u w s x k = by (ended s) x.closes
-  where
-    by : (o : Option End) → Closes L S D sys i unread r h x.made.run x.made.done x.made.rest x.tail o → option_map sort_of o ≡ Some k → (e : End) × FollowsBy L S D sys i unread r h x.made.run x.made.done x.made.rest k e
-    by None y is = absurd (cc is)
-    by (Some e) y is = let at : sort_of e ≡ k = cc is in (e, subst (λ j. FollowsBy L S D sys i unread r h x.made.run x.made.done x.made.rest j e) at y.1)
-
-pub ran_built : (L S D : Type 0) (sys : System) (i : List ℕ) (unread : List ℕ) (r : Readings) (h : Histories) (new : Option Histories) (u w : Option (List ℕ)) (s : Status) → Ran L S D sys i unread r h new u w s → sorted s ≡ Some itself → IsBuilt sys h
-ran_built L S D sys i unread r h new u w s x is = let y = ran_sorted L S D sys i unread r h new u w s x itself is in y.1.0
-
-pub ran_not_built : (L S D : Type 0) (sys : System) (i : List ℕ) (unread : List ℕ) (r : Readings) (h : Histories) (new : Option Histories) (u w : Option (List ℕ)) (s : Status) → Ran L S D sys i unread r h new u w s → sorted s ≡ Some unbuilt → IsNotBuilt sys h × (new ≡ Some h)
-ran_not_built L S D sys i unread r h new u w s x is =
-    let y = ran_sorted L S D sys i unread r h new u w s x unbuilt is in
-    (y.1.0, x.made.held ∙ ap (λ (d : List Step). Some (left_by d h)) y.1.1)
-
-pub ran_consistent : (L S D : Type 0) (sys : System) (i : List ℕ) (unread : List ℕ) (r : Readings) (h : Histories) (new : Option Histories) (u w : Option (List ℕ)) (s : Status) → Ran L S D sys i unread r h new u w s → LeavesConsistent sys h new
-ran_consistent L S D sys i unread r h new u w s x = record { histories = left_by x.made.done h; stores = x.made.held; consistent = x.consistent }
+-- what it leaves is consistent
+pub ran_consistent : (L S D : Type 0) (sys : System) (i : List ℕ) (unread : List ℕ) (r : Readings) (h : Contents) (new : Option Histories) (kept : Option (Name → List Snapshot)) (u w : Option (List ℕ)) (s : Status) → Ran L S D sys i unread r h new kept u w s → LeavesConsistent sys h.histories new
+ran_consistent L S D sys i unread r h new kept u w s x = record { histories = (left_by x.made.done h).histories; stores = x.made.held.histories; consistent = x.consistent }
 
 -- the sink failed in a text of the run
-pub ran_text : (L S D : Type 0) (sys : System) → IsCheckedSystem sys → (i : List ℕ) (unread : List ℕ) (r : Readings) (h : Histories) (new : Option Histories) (u w : Option (List ℕ)) → (front : List ℕ) (x : Made sys i r h (λ k. new ≡ Some k) u w front) → IsFrontOf front x.rest
-    → Ran L S D sys i unread r h new u w status.Sink
-ran_text L S D sys checked i unread r h new u w front x next = ran_of L S D sys checked i unread r h new u w status.Sink front x (inl next)
+pub ran_text : (L S D : Type 0) (sys : System) → IsCheckedSystem sys → (i : List ℕ) (unread : List ℕ) (r : Readings) (h : Contents) (new : Option Histories) (kept : Option (Name → List Snapshot)) (u w : Option (List ℕ)) → (front : List ℕ) (x : Made sys i r h (λ k. StoresTell k new kept) u w front) → IsFrontOf front x.rest
+    → Ran L S D sys i unread r h new kept u w status.Sink
+ran_text L S D sys checked i unread r h new kept u w front x next = ran_of L S D sys checked i unread r h new kept u w status.Sink front x (inl next)
 
 -- nothing was run, since the document couldn't be read, or memory ran out
-pub ran_unread : (L S D : Type 0) → D → (sys : System) → IsCheckedSystem sys → (i : List ℕ) (unread : List ℕ) (r : Readings) (h : Histories) (new : Option Histories) (u w : Option (List ℕ)) (s : Status) → new ≡ Some h → Writes end.System u w (ended s) → Ran L S D sys i unread r h new u w s
-ran_unread L S D failed sys checked i unread r h new u w s same writes = ran_end L S D sys checked i unread r h new u u w end.System s writes (made_none sys i r h (λ k. new ≡ Some k) u u same refl) (refl, failed, refl)
+pub ran_unread : (L S D : Type 0) → D → (sys : System) → IsCheckedSystem sys → (i : List ℕ) (unread : List ℕ) (r : Readings) (h : Contents) (new : Option Histories) (kept : Option (Name → List Snapshot)) (u w : Option (List ℕ)) (s : Status) → StoresTell h new kept → Writes end.System u w (ended s) → Ran L S D sys i unread r h new kept u w s
+ran_unread L S D failed sys checked i unread r h new kept u w s same writes = ran_end L S D sys checked i unread r h new kept u u w end.System s writes (made_none sys i r h (λ k. StoresTell k new kept) u u same refl) (refl, failed, refl)
 
-pub ran_starved : (L S D : Type 0) (sys : System) → IsCheckedSystem sys → (i : List ℕ) (unread : List ℕ) (r : Readings) (h : Histories) (new : Option Histories) (u w : Option (List ℕ)) (s : Status) → new ≡ Some h → Writes end.Memory u w (ended s) → Ran L S D sys i unread r h new u w s
-ran_starved L S D sys checked i unread r h new u w s same writes = ran_end L S D sys checked i unread r h new u u w end.Memory s writes (made_none sys i r h (λ k. new ≡ Some k) u u same refl) (λ is. absurd (cc is))
+pub ran_starved : (L S D : Type 0) (sys : System) → IsCheckedSystem sys → (i : List ℕ) (unread : List ℕ) (r : Readings) (h : Contents) (new : Option Histories) (kept : Option (Name → List Snapshot)) (u w : Option (List ℕ)) (s : Status) → StoresTell h new kept → Writes end.Memory u w (ended s) → Ran L S D sys i unread r h new kept u w s
+ran_starved L S D sys checked i unread r h new kept u w s same writes = ran_end L S D sys checked i unread r h new kept u u w end.Memory s writes (made_none sys i r h (λ k. StoresTell k new kept) u u same refl) (λ is. absurd (cc is))
 
 -- an end that is told as itself, by the status
 pub writes_so : (e : End) (s : Status) (v w : Option (List ℕ)) → Writes e v w (ended s) → (told : End) → ended s ≡ Some told → IsToldAs e told × Appends v w (as_line (end_text told))

@@ -14,17 +14,17 @@ use Rattle.es_model.specs.Values.{Name}
 use Rattle.es_io.specs.Readings.{Readings}
 use Rattle.es_recorder.specs.Held.{put, SameElsewhere, ClosesTold, Closes}
 use Rattle.es_process.specs.declared.application.Application.{Application}
-use Rattle.es_process.specs.Answer.{Options}
 use Rattle.es_process.specs.Applications.{recorder_of}
+use Rattle.es_process.specs.Contents.{Contents}
 use Rattle.es_process.specs.SingleThread.{is_among}
-use Rattle.es_process.specs.Standing.{State, HoldsOne, Holds, HoldHistories, AreDistinct, IsSame, names_in, faults_at, count_of}
+use Rattle.es_process.specs.Standing.{HoldsOne, Holds, AreDistinct, IsSame, names_in, faults_at, count_of}
 use Rattle.es_process.proofs.AmongLemmas.{among-contains, contains-among, contains-last, is-same, same-name, put-cases, put-here, put-other, same-or-not}
-use Rattle.es_process.proofs.HoldsLemmas.{all-none, contains-at, name-at, same-one, later-then, later-set, snapshots-kept}
+use Rattle.es_process.proofs.HoldsLemmas.{all-none, contains-at, name-at, same-one, later-then, later-set}
 use Rattle.es_process.proofs.SetLemmas.{get-cases, map-set}
 use Rattle.es_single.specs.Limits.{limits}
 use Rattle.es_single.specs.Runs.{state_of, AreEmpty}
-use Rattle.es_top.specs.Opened.{marked, HoldElsewhere, TellEach, AreHandedOut, AreFresh, AreKept, SomeFailed, IsUnused, AreOpened, IsFrontOfNames, IsOccupied}
-use Rattle.es_top.specs.Top.{IsLeft}
+use Rattle.es_top.specs.Opened.{marked, HoldElsewhere, TellEach, AreHandedOut, AreFresh, AreKept, ClosesEach, SomeFailed, IsUnused, AreOpened, IsFrontOfNames, IsOccupied}
+use Rattle.es_top.specs.Top.{IsLeft, StoresTell}
 
 -- names
 
@@ -210,11 +210,11 @@ LeaveOpen {A} {R} tell all left out held now = (base q : Name → A) → AreDist
 leave_none : {A R : Type 0} (tell : R → Option A) (all : List (Application R)) (out : Name → Bool) (held : Option (Name → A)) → LeaveOpen tell all all out held held
 leave_none tell all out held = λ base q distinct outs elsewhere tells others. record { things = elsewhere.things; told = elsewhere.told; same = λ n none. elsewhere.same n none ∙ sym (others n none) }
 
-leave_all : {A R : Type 0} (tell : R → Option A) (all left : List (Application R)) (out : Name → Bool) (held now : Option (Name → A)) → left ≡ [] → LeaveOpen tell all left out held now → (base q : Name → A) → AreDistinct (names_in all)
-    → ((n : Name) → is_among n (names_in all) ≡ true → out n ≡ true) → HoldElsewhere (names_in all) base held → TellEach tell q all → ((n : Name) → is_among n (names_in all) ≡ false → q n ≡ base n) → now ≡ Some q
-leave_all {A} {R} tell all left out held now none leaves base q distinct outs elsewhere tells others =
+-- all were closed, and the stores hold what they told
+pub leave_all : {A R : Type 0} (tell : R → Option A) (all left : List (Application R)) (out : Name → Bool) (held now : Option (Name → A)) → length left ≡ 0 → LeaveOpen tell all left out held now → ClosesEach tell all out held now
+leave_all {A} {R} tell all left out held now none leaves = λ base q distinct outs elsewhere tells others.
     let y = leaves base q distinct outs elsewhere tells others in
-    y.told ∙ ap Some (λ i n. y.same n (ap (λ (l : List (Application R)). is_among n (names_in l)) none) i)
+    y.told ∙ ap Some (λ i n. y.same n (ap (λ (l : List (Application R)). is_among n (names_in l)) (nil_of left none)) i)
 
 module _ {R : Type 0} (capacity faults : R → ℕ) where
   -- one more was opened
@@ -247,12 +247,20 @@ module _ {R : Type 0} (capacity faults : R → ℕ) where
 
   -- all were opened
   module _ (out last : Name → Bool) (apps : List (Application R)) (x : AreOpened capacity faults out last apps) where
-    pub opened_holds : (history : R → Option (List Recording)) (held now : Option Histories) → AreHandedOut history held now apps → (readings : Option Readings) (r : Readings) (h : Histories) → readings ≡ Some r → held ≡ Some h
-        → Holds history capacity h limits apps readings (state_of h r)
-    opened_holds history held now y readings r h reads known = record {
-      each = λ i a at. let one = x.each i a at in record { told = y.each h known i a at; room = one.room; turns = one.turns; counted = one.unused };
+    pub opened_holds : (history : R → Option (List Recording)) (snapshots : R → Option (List Snapshot)) (held now : Option Histories) (kept kept_now : Option (Name → List Snapshot)) → AreHandedOut history held now apps → AreHandedOut snapshots kept kept_now apps
+        → (readings : Option Readings) (r : Readings) (opening : Contents) → readings ≡ Some r → StoresTell opening held kept → Holds history snapshots capacity opening limits apps readings (state_of opening r)
+    opened_holds history snapshots held now kept kept_now y z readings r opening reads stores = record {
+      each = λ i a at.
+          let one = x.each i a at in
+          record {
+            told = y.each opening.histories stores.histories i a at;
+            told_snapshots = z.each opening.snapshots stores.snapshots i a at;
+            room = one.room;
+            turns = one.turns;
+            counted = one.unused;
+          };
       clock = reads;
-      elsewhere = λ n none. refl;
+      elsewhere = record { histories = λ n none. refl; snapshots = λ n none. refl };
     }
 
     pub opened_fresh : AreFresh faults apps
@@ -266,10 +274,7 @@ module _ {R : Type 0} (capacity faults : R → ℕ) where
     marked_out n there = x.marks n ∙ (λ i. if there i then true else out n)
 
     -- and closed again
-    pub opened_left : {A : Type 0} (tell : R → Option A) (held now : Option (Name → A)) → AreHandedOut tell held now apps → (new : Option (Name → A))
-        → ((base q : Name → A) → AreDistinct (names_in apps) → ((n : Name) → is_among n (names_in apps) ≡ true → last n ≡ true) → HoldElsewhere (names_in apps) base now → TellEach tell q apps
-        → ((n : Name) → is_among n (names_in apps) ≡ false → q n ≡ base n) → new ≡ Some q)
-        → AreDistinct (names_in apps) → IsLeft held new
+    pub opened_left : {A : Type 0} (tell : R → Option A) (held now : Option (Name → A)) → AreHandedOut tell held now apps → (new : Option (Name → A)) → ClosesEach tell apps last now new → AreDistinct (names_in apps) → IsLeft held new
     opened_left {A} tell held now y new closed distinct = by held refl
       where
         by : (o : Option (Name → A)) → held ≡ o → IsLeft o new
@@ -342,18 +347,14 @@ module _ {R : Type 0} (history : R → Option (List Recording)) (snapshots : R �
         rises zero some = omega (arith, x.later, risen some)
         rises (suc i) some = omega (arith, x.risen (i, some), later)
 
-  -- all were closed
-  module _ (all left : List (Application R)) (held now : Option Histories) (kept kept_now : Option (Name → List Snapshot)) (out last : Name → Bool) (before after : ℕ) (x : Closing all left held now kept kept_now out last before after) (none : length left ≡ 0) where
-    pub closed_holds : (base h : Histories) → AreDistinct (names_in all) → ((n : Name) → is_among n (names_in all) ≡ true → out n ≡ true) → HoldElsewhere (names_in all) base held → HoldHistories history base all h → now ≡ Some h
-    closed_holds base h distinct outs elsewhere histories = leave_all history all left out held now (nil_of left none) x.holds base h distinct outs elsewhere histories.each histories.elsewhere
-
-    pub closed_keeps : (base q : Name → List Snapshot) → AreDistinct (names_in all) → ((n : Name) → is_among n (names_in all) ≡ true → out n ≡ true) → HoldElsewhere (names_in all) base kept → TellEach snapshots q all
-        → ((n : Name) → is_among n (names_in all) ≡ false → q n ≡ base n) → kept_now ≡ Some q
-    closed_keeps = leave_all snapshots all left out kept kept_now (nil_of left none) x.keeps
-
 module _ {R : Type 0} (history : R → Option (List Recording)) (capacity : R → ℕ) (snapshots : R → Option (List Snapshot)) (faults : R → ℕ) where
   pub kept_none : (apps : List (Application R)) → AreKept history capacity snapshots faults apps apps
-  kept_none apps = record { holds = λ base options readings s held. held; stay = all-none snapshots faults apps }
+  kept_none apps = record { holds = λ base options readings s held. held; tells = record { told = λ h tells. tells; told_snapshots = λ q tells. tells }; stay = all-none faults apps }
+
+  -- where one of them is the same they tell the same
+  tells_set : {A : Type 0} (tell : R → Option A) (q : Name → A) (mid : List (Application R)) (i : ℕ) (a b : Application R) → slice_get mid i ≡ Some a → b.name ≡ a.name → tell (recorder_of b) ≡ tell (recorder_of a) → TellEach tell q mid → TellEach tell q (slice_set mid i b)
+  tells_set tell q mid i a b at named same tells = λ j c there.
+      get-cases (λ (y : Application R). tell (recorder_of y) ≡ Some (q y.name)) mid i j b a c at there (same ∙ tells i a at ∙ ap (λ n. Some (q n)) (sym named)) (λ other was. tells j c was)
 
   pub kept_more : (old mid : List (Application R)) (i : ℕ) (a b : Application R) → AreKept history capacity snapshots faults old mid → slice_get mid i ≡ Some a → IsSame history capacity snapshots faults a b → AreKept history capacity snapshots faults old (slice_set mid i b)
   kept_more old mid i a b x at same =
@@ -362,21 +363,27 @@ module _ {R : Type 0} (history : R → Option (List Recording)) (capacity : R �
         holds = λ base options readings s first.
             let held = x.holds base options readings s first in
             record {
-              each = λ j c there. get-cases (λ (y : Application R). HoldsOne history capacity options y s) mid i j b a c at there (same-one history capacity options a b s same (held.each i a at)) (λ other was. held.each j c was);
+              each = λ j c there. get-cases (λ (y : Application R). HoldsOne history snapshots capacity options y s) mid i j b a c at there (same-one history snapshots capacity options a b s same (held.each i a at)) (λ other was. held.each j c was);
               clock = held.clock;
-              elsewhere = λ n none. held.elsewhere n (ap (is_among n) (sym kept) ∙ none);
+              elsewhere = record {
+                histories = λ n none. held.elsewhere.histories n (ap (is_among n) (sym kept) ∙ none);
+                snapshots = λ n none. held.elsewhere.snapshots n (ap (is_among n) (sym kept) ∙ none);
+              };
             };
+        tells = record {
+          told = λ h tells. tells_set history h mid i a b at same.stays.name same.told (x.tells.told h tells);
+          told_snapshots = λ q tells. tells_set snapshots q mid i a b at same.stays.name same.kept (x.tells.told_snapshots q tells);
+        };
         stay = record {
           names = kept ∙ x.stay.names;
-          kept = snapshots-kept snapshots mid i a b at same.stays.kept ∙ x.stay.kept;
           later = later-then faults old mid (slice_set mid i b) x.stay.later (later-set faults mid i a b at same.stays.later);
         };
       }
 
   -- what one of them holds
-  pub holds_at : (base : Histories) (options : Options) (readings : Option Readings) (s : State) (old mid : List (Application R)) (i : ℕ) (a : Application R) → AreKept history capacity snapshots faults old mid → Holds history capacity base options old readings s → slice_get mid i ≡ Some a
-      → (history (recorder_of a) ≡ Some (s.histories a.name)) × (slice_get (names_in old) i ≡ Some a.name)
-  holds_at base options readings s old mid i a x held at = ((((x.holds base options readings s held).each) i a at).told, ap (λ (names : List Name). slice_get names i) (sym x.stay.names) ∙ name-at mid i a at)
+  pub told_at : (h : Histories) (old mid : List (Application R)) (i : ℕ) (a : Application R) → AreKept history capacity snapshots faults old mid → TellEach history h old → slice_get mid i ≡ Some a
+      → (history (recorder_of a) ≡ Some (h a.name)) × (slice_get (names_in old) i ≡ Some a.name)
+  told_at h old mid i a x tells at = (x.tells.told h tells i a at, ap (λ (names : List Name). slice_get names i) (sym x.stay.names) ∙ name-at mid i a at)
 
 -- the first of some applications hold nothing
 abbrev pub AreEmptyTo : List Name → ℕ → Histories → Type 0

@@ -1,23 +1,25 @@
 -- From a run over opened applications to one over the stores.
-use Rattle.std.proofs.Common.{◌≡◌, ◌≤◌, ◌||◌, inl, inr, pos, ℕ, Bool, true, false, List, [], ◌++◌, length, take, drop, Option, Some, None, IfOk, Result, Ok, Err, if◌then◌else◌, map, option_map, slice_get, refl, sym, ap, ◌∙◌, subst, append-nil, arith}
-use Rattle.std.proofs.lemmas.Option.{slice_get-map}
+use Rattle.std.proofs.Common.{◌≡◌, ◌≤◌, inl, inr, pos, ℕ, Bool, true, false, List, [], ◌++◌, length, take, drop, Option, Some, None, IfOk, Result, Ok, Err, if◌then◌else◌, refl, sym, ap, ◌∙◌, subst, append-nil, arith}
 use Rattle.std.proofs.Math.Seq.{take-append_seam}
 use Rattle.std.specs.Io.KnownBytes.{Appends}
 use Rattle.es_model.specs.Causes.{Rose}
 use Rattle.es_model.specs.declared.declaration.System.{System}
+use Rattle.es_model.specs.declared.event.Recording.{Recording}
 use Rattle.es_model.specs.declared.memory.Failed.{Failed}
+use Rattle.es_model.specs.declared.snapshot.Snapshot.{Snapshot}
 use Rattle.es_model.specs.History.{Histories}
 use Rattle.es_model.specs.Values.{Name}
 use Rattle.es_io.specs.Readings.{Readings}
 use Rattle.es_lines.specs.declared.ends.End.{End}
 use Rattle.es_lines.specs.declared.ends.End.TheVariants as end
 use Rattle.es_io.specs.Remains.{MayHold}
-use Rattle.es_process.specs.Applications.{recorder_of}
+use Rattle.es_process.specs.Answer.{Options}
+use Rattle.es_process.specs.Contents.{Contents}
 use Rattle.es_process.specs.declared.application.Application.{Application}
 use Rattle.es_process.specs.Drains.{IsOnlyPair, AreApps}
 use Rattle.es_process.specs.declared.draining.Pair.{Pair}
 use Rattle.es_process.specs.SingleThread.{is_among, left_by, written_by}
-use Rattle.es_process.specs.Standing.{AreDistinct, SomeRose, faults_at, names_in}
+use Rattle.es_process.specs.Standing.{AreDistinct, Holds, SomeRose, State, faults_at, names_in}
 use Rattle.es_process.specs.SystemRules.{rules_of, app_names}
 use Rattle.es_process.proofs.DrainLemmas.{run-exists}
 use Rattle.es_process.proofs.StandingLemmas.{appends_nothing}
@@ -25,9 +27,9 @@ use Rattle.es_single.specs.Limits.{limits, terms_of, lines_for}
 use Rattle.es_single.specs.Runs.{AreEmpty, IsRunning, PartRun, Runs, WholeRun}
 use Rattle.es_single.specs.Traced.{OfInput}
 use Rattle.es_single.specs.Ends.{itself, sort_of, unbegun}
-use Rattle.es_top.specs.Opened.{marked, AreFresh, HoldElsewhere, TellEach, IsOccupied, IsOccupiedTest, SomeFailed, is_beyond, has_interval, has_several}
+use Rattle.es_top.specs.Opened.{marked, AreFresh, ClosesEach, HoldElsewhere, TellEach, IsOccupied, IsOccupiedTest, SomeFailed, is_beyond}
 use Rattle.es_top.specs.inner.Ran.{IsOfSystem, Stands}
-use Rattle.es_top.specs.Top.{FollowsBy, IfTold, IsLeft, Made}
+use Rattle.es_top.specs.Top.{FollowsBy, IfTold, IsLeft, Made, StoresTell}
 
 -- something that an object may hold
 may_hold : {A : Type 0} (told : Option A) → A → (a : A) × MayHold told a
@@ -46,13 +48,13 @@ pub of_then : {old new : Option (List ℕ)} {clock : Option Readings} {P Q : Lis
 of_then x f = record { input = x.input; rest = x.rest; readings = x.readings; held = x.held; left = x.left; told = x.told; holds = f x.input x.rest x.readings x.holds }
 
 -- nothing was run; all steps are still to be made
-abbrev pub made_none : (sys : System) (i : List ℕ) (r : Readings) (h : Histories) (left : Histories → Type 0) (u w : Option (List ℕ)) → left h → w ≡ u → Made sys i r h left u w []
+abbrev pub made_none : (sys : System) (i : List ℕ) (r : Readings) (h : Contents) (left : Contents → Type 0) (u w : Option (List ℕ)) → left h → w ≡ u → Made sys i r h left u w []
 made_none sys i r h left u w held still =
-    let one = run-exists (rules_of sys) limits h r (lines_for (rules_of sys) i) in
+    let one = run-exists (rules_of sys) limits h.histories h r (lines_for (rules_of sys) i) in
     record { run = one.run; done = []; rest = one.run.steps; is = one.is; parts = refl; begun = inr refl; held = held; written = subst (λ x. Appends u x []) (sym still) (appends_nothing u) }
 
 -- a run over applications that were found empty
-module _ (sys : System) (h : Histories) (r : Readings) (i : List ℕ) (left : Histories → Type 0) (u w : Option (List ℕ)) (plain : is_beyond sys ≡ false) (empty : AreEmpty (app_names sys) h) (rest_of : List ℕ) where
+module _ (sys : System) (h : Contents) (r : Readings) (i : List ℕ) (left : Contents → Type 0) (u w : Option (List ℕ)) (plain : is_beyond sys ≡ false) (empty : AreEmpty (app_names sys) h.histories) (rest_of : List ℕ) where
   abbrev made_part : (front : List ℕ) → PartRun (terms_of sys) h r i left u w front → Made sys i r h left u w front
   made_part front x = record { run = x.run; done = x.done; rest = x.rest; is = x.is; parts = x.parts; begun = inl (plain, empty); held = x.held; written = x.written }
 
@@ -98,11 +100,21 @@ pub running_ends : {P : Type 0} (result : Result End Failed) → IfOk result IsR
 running_ends (Ok e) so is = absurd ((running_sort e so).1 (cc is))
 running_ends (Err f) so is = absurd (cc is)
 
+-- what is said of an end of its own is said of every end
+pub built_end : {X : Type 0} (result : Result End Failed) → X → IfOk result (λ e. sort_of e ≡ itself → X)
+built_end (Ok e) x = λ is. x
+built_end (Err f) x = tt
+
+-- what is held of a state tells the histories
+pub held_histories : {R : Type 0} (history : R → Option (List Recording)) (snapshots : R → Option (List Snapshot)) (capacity : R → ℕ) (base : Contents) (o : Options) (apps : List (Application R)) (readings : Option Readings) (s : State)
+    → Holds history snapshots capacity base o apps readings s → TellEach history s.contents.histories apps
+held_histories history snapshots capacity base o apps readings s held = λ i a at. (held.each i a at).told
+
 -- what is held, in other words
-abbrev made_held : (sys : System) (i : List ℕ) (r : Readings) (h : Histories) (left now : Histories → Type 0) (u w : Option (List ℕ)) → ((k : Histories) → left k → now k) → (tail : List ℕ) → Made sys i r h left u w tail → Made sys i r h now u w tail
+abbrev made_held : (sys : System) (i : List ℕ) (r : Readings) (h : Contents) (left now : Contents → Type 0) (u w : Option (List ℕ)) → ((k : Contents) → left k → now k) → (tail : List ℕ) → Made sys i r h left u w tail → Made sys i r h now u w tail
 made_held sys i r h left now u w closed tail x = record { run = x.run; done = x.done; rest = x.rest; is = x.is; parts = x.parts; begun = x.begun; held = closed (left_by x.done h) x.held; written = x.written }
 
-pub stands_held : (sys : System) (i : List ℕ) (rest_of : List ℕ) (r : Readings) (h : Histories) (left now : Histories → Type 0) (u w : Option (List ℕ)) → ((k : Histories) → left k → now k) → (result : Result End Failed)
+pub stands_held : (sys : System) (i : List ℕ) (rest_of : List ℕ) (r : Readings) (h : Contents) (left now : Contents → Type 0) (u w : Option (List ℕ)) → ((k : Contents) → left k → now k) → (result : Result End Failed)
     → Stands sys i rest_of r h left u w result → Stands sys i rest_of r h now u w result
 stands_held sys i rest_of r h left now u w closed (Ok e) x = (made_held sys i r h left now u w closed [] x.0, x.1)
 stands_held sys i rest_of r h left now u w closed (Err f) x = (x.0, made_held sys i r h left now u w closed x.0 x.1, x.2)
@@ -128,40 +140,21 @@ pub left_told : {A : Type 0} (held new : Option (Name → A)) → ((h : Name →
 left_told None new told = tt
 left_told (Some h) new told = told h refl
 
-pub left_is : {A : Type 0} (h : Name → A) (held new : Option (Name → A)) → held ≡ Some h → IsLeft held new → new ≡ Some h
+left_is : {A : Type 0} (h : Name → A) (held new : Option (Name → A)) → held ≡ Some h → IsLeft held new → new ≡ Some h
 left_is h held new told left = subst (λ o. IsLeft o new) told left
 
--- applications that have the same names and tell the same tell what was opened
-pub told_still : {A R : Type 0} (tell : R → Option A) (q : Name → A) (old new : List (Application R)) → names_in new ≡ names_in old → map (λ (a : Application R). tell (recorder_of a)) new ≡ map (λ (a : Application R). tell (recorder_of a)) old → TellEach tell q old → TellEach tell q new
-told_still {A} {R} tell q old new named told each i a is = at (slice_get old i) refl
-  where
-    name_at : Some a.name ≡ option_map (λ (x : Application R). x.name) (slice_get old i)
-    name_at = sym (slice_get-map (λ (x : Application R). x.name) new i ∙ ap (option_map (λ (x : Application R). x.name)) is) ∙ ap (λ xs. slice_get xs i) named ∙ slice_get-map (λ (x : Application R). x.name) old i
-
-    told_at : Some (tell (recorder_of a)) ≡ option_map (λ (x : Application R). tell (recorder_of x)) (slice_get old i)
-    told_at = sym (slice_get-map (λ (x : Application R). tell (recorder_of x)) new i ∙ ap (option_map (λ (x : Application R). tell (recorder_of x))) is) ∙ ap (λ xs. slice_get xs i) told ∙ slice_get-map (λ (x : Application R). tell (recorder_of x)) old i
-
-    at : (o : Option (Application R)) → slice_get old i ≡ o → tell (recorder_of a) ≡ Some (q a.name)
-    at None none = let clash : Some a.name ≡ None = name_at ∙ ap (option_map (λ (x : Application R). x.name)) none in absurd (cc clash)
-    at (Some b) some =
-        let names : Some a.name ≡ Some b.name = name_at ∙ ap (option_map (λ (x : Application R). x.name)) some in
-        let tells : Some (tell (recorder_of a)) ≡ Some (tell (recorder_of b)) = told_at ∙ ap (option_map (λ (x : Application R). tell (recorder_of x))) some in
-        let same : a.name ≡ b.name = cc names in
-        let tell_same : tell (recorder_of a) ≡ tell (recorder_of b) = cc tells in
-        tell_same ∙ each i b some ∙ ap (λ n. Some (q n)) (sym same)
-
--- what closing asks of the applications after a run
-pub record Closable {A : Type 0} (now : List Name) (out : Name → Bool) (h : Name → A) (held : Option (Name → A)) : Type 0 where
-  pub distinct : AreDistinct now
-  pub all_out : (n : Name) → is_among n now ≡ true → out n ≡ true
-  pub elsewhere : HoldElsewhere now h held
+-- stores that were left as they were tell the same
+pub still_told : (opening : Contents) (held new : Option Histories) (kept now : Option (Name → List Snapshot)) → StoresTell opening held kept → IsLeft held new → IsLeft kept now → StoresTell opening new now
+still_told opening held new kept now told left still = record { histories = left_is opening.histories held new told.histories left; snapshots = left_is opening.snapshots kept now told.snapshots still }
 
 marked_out : (names : List Name) (before out : Name → Bool) (n : Name) → out n ≡ marked before names true n → is_among n names ≡ true → out n ≡ true
 marked_out names before out n is there = is ∙ (λ i. if there i then true else before n)
 
-pub closable : {A : Type 0} (names now : List Name) (before out : Name → Bool) (h : Name → A) (held : Option (Name → A)) → now ≡ names → AreDistinct names → ((n : Name) → out n ≡ marked before names true n) → HoldElsewhere names h held → Closable now out h held
-closable names now before out h held same distinct are elsewhere =
-    subst (λ ns. Closable ns out h held) (sym same) (record { distinct = distinct; all_out = λ n there. marked_out names before out n (are n) there; elsewhere = elsewhere })
+-- what applications tell that were opened, and are closed, is what the stores hold then
+pub closed_told : {A R : Type 0} (tell : R → Option A) (apps : List (Application R)) (names : List Name) (before out : Name → Bool) (base q : Name → A) (held new : Option (Name → A)) → ClosesEach tell apps out held new → names_in apps ≡ names → AreDistinct names
+    → ((n : Name) → out n ≡ marked before names true n) → HoldElsewhere names base held → TellEach tell q apps → ((n : Name) → is_among n (names_in apps) ≡ false → q n ≡ base n) → new ≡ Some q
+closed_told tell apps names before out base q held new closes named distinct are elsewhere tells others =
+    closes base q (subst AreDistinct (sym named) distinct) (λ n there. marked_out names before out n (are n) (ap (is_among n) (sym named) ∙ there)) (subst (λ ns. HoldElsewhere ns base held) (sym named) elsewhere) tells others
 
 -- all are in again, as before
 in_again_at : (names : List Name) (before opened : Name → Bool) (n : Name) (v : Bool) → is_among n names ≡ v → opened n ≡ marked before names true n → (is_among n names ≡ true → before n ≡ false) → marked opened names false n ≡ before n
@@ -185,17 +178,6 @@ some_failed faults old new fresh rose =
 
 pub rose_later : (before opened now : ℕ) → before ≤ opened → Rose opened now → Rose before now
 rose_later before opened now later rose = omega arith
-
--- a class wants snapshots, or there are several pairs
-pub beyond_interval : (sys : System) → has_interval sys ≡ true → is_beyond sys ≡ true
-beyond_interval sys some = ap (λ b. b || has_several sys) some
-
-pub beyond_several : (sys : System) → has_interval sys ≡ false → has_several sys ≡ true → is_beyond sys ≡ true
-beyond_several sys none several = ap (λ b. b || has_several sys) none ∙ several
-
--- no class wants snapshots and there aren't several pairs
-pub plain : (sys : System) → has_interval sys ≡ false → has_several sys ≡ false → is_beyond sys ≡ false
-plain sys none one = ap (λ b. b || has_several sys) none ∙ one
 
 -- applications that were lent and written back have the names that they had
 pub names_back : {R : Type 0} (len : ℕ) (new lent items : List (Application R)) (names : List Name) → take len (new ++ drop (length new) items) ≡ new → names_in new ≡ names_in lent → lent ≡ items → names_in items ≡ names

@@ -1,6 +1,5 @@
 -- Applications that were opened, and what stands beyond this stage.
-use Rattle.std.specs.Prelude.{◌≡◌, ◌⊎◌, ◌<◌, ℕ, nat_lt, ◌||◌, Bool, true, false, List, ◌++◌, length, Contains, slice_get, if◌then◌else◌, Option, Some, is_some}
-use Rattle.std.specs.List.{list_any}
+use Rattle.std.specs.Prelude.{◌≡◌, ◌⊎◌, ◌<◌, ℕ, nat_lt, Bool, true, false, List, ◌++◌, length, Contains, slice_get, if◌then◌else◌, Option, Some}
 use Rattle.es_model.specs.declared.declaration.System.{System}
 use Rattle.es_model.specs.declared.event.Recording.{Recording}
 use Rattle.es_model.specs.declared.snapshot.Snapshot.{Snapshot}
@@ -11,9 +10,10 @@ use Rattle.es_decl.specs.Pairs.{pairs_of}
 use Rattle.es_process.specs.declared.application.Application.{Application}
 use Rattle.es_process.specs.Answer.{Options}
 use Rattle.es_process.specs.Applications.{name_of, recorder_of, turns_of, used_of}
+use Rattle.es_process.specs.Contents.{Contents}
 use Rattle.es_process.specs.Drains.{IsOnlyPair}
 use Rattle.es_process.specs.SingleThread.{is_among}
-use Rattle.es_process.specs.Standing.{State, Holds, AllStay, faults_at, names_in}
+use Rattle.es_process.specs.Standing.{State, Holds, AllStay, AreDistinct, faults_at, names_in}
 use Rattle.es_process.specs.SystemRules.{app_names}
 use Rattle.es_single.specs.Limits.{limits}
 use Rattle.es_single.specs.Runs.{AreEmpty}
@@ -33,6 +33,11 @@ pub record HoldElsewhere {A : Type 0} (names : List Name) (base : Name → A) (h
 -- the recorder of each application tells what this says of its name
 abbrev pub TellEach : {A R : Type 0} → (R → Option A) → (Name → A) → List (Application R) → Type 0
 TellEach {A} {R} tell q apps = (i : ℕ) (a : Application R) → slice_get apps i ≡ Some a → tell (recorder_of a) ≡ Some (q (name_of a))
+
+-- closing these applications leaves in the stores what each tells, and elsewhere what was there, where their names differ and all are out
+abbrev pub ClosesEach : {A R : Type 0} → (R → Option A) → List (Application R) → (Name → Bool) → Option (Name → A) → Option (Name → A) → Type 0
+ClosesEach {A} {R} tell apps out held new = (base q : Name → A) → AreDistinct (names_in apps) → ((n : Name) → is_among n (names_in apps) ≡ true → out n ≡ true)
+    → HoldElsewhere (names_in apps) base held → TellEach tell q apps → ((n : Name) → is_among n (names_in apps) ≡ false → q n ≡ base n) → new ≡ Some q
 
 -- the recorders of some applications tell what the stores held, which now hold the rest
 pub record AreHandedOut {A R : Type 0} (tell : R → Option A) (held now : Option (Name → A)) (apps : List (Application R)) : Type 0 where
@@ -60,10 +65,16 @@ pub record AreOpened {R : Type 0} (capacity faults : R → ℕ) (out out_now : N
   pub marks : (n : Name) → out_now n ≡ marked out (names_in apps) true n
   pub were_in : (n : Name) → is_among n (names_in apps) ≡ true → out n ≡ false
 
+-- the recorders of some applications tell what they told of each name
+pub record AreTold {R : Type 0} (history : R → Option (List Recording)) (snapshots : R → Option (List Snapshot)) (old new : List (Application R)) : Type 0 where
+  pub told : (h : Histories) → TellEach history h old → TellEach history h new
+  pub told_snapshots : (q : Name → List Snapshot) → TellEach snapshots q old → TellEach snapshots q new
+
 -- the applications hold what they held
 pub record AreKept {R : Type 0} (history : R → Option (List Recording)) (capacity : R → ℕ) (snapshots : R → Option (List Snapshot)) (faults : R → ℕ) (old new : List (Application R)) : Type 0 where
-  pub holds : (base : Histories) (options : Options) (readings : Option Readings) (s : State) → Holds history capacity base options old readings s → Holds history capacity base options new readings s
-  pub stay : AllStay snapshots faults old new
+  pub holds : (base : Contents) (options : Options) (readings : Option Readings) (s : State) → Holds history snapshots capacity base options old readings s → Holds history snapshots capacity base options new readings s
+  pub tells : AreTold history snapshots old new
+  pub stay : AllStay faults old new
 
 -- some names are the first of these
 abbrev pub IsFrontOfNames : List Name → List Name → Type 0
@@ -78,15 +89,9 @@ abbrev pub IsOccupiedTest : List Name → Histories → Bool → Type 0
 IsOccupiedTest names h true = IsOccupied names h
 IsOccupiedTest names h false = AreEmpty names h
 
-abbrev pub has_several : System → Bool
-has_several sys = nat_lt 1 (length (pairs_of sys.pipes))
-
-abbrev pub has_interval : System → Bool
-has_interval sys = list_any (λ c. is_some c.interval) sys.classes
-
--- the system has more than one pair, or a class that wants snapshots
+-- the system has more than one pair
 abbrev pub is_beyond : System → Bool
-is_beyond sys = has_interval sys || has_several sys
+is_beyond sys = nat_lt 1 (length (pairs_of sys.pipes))
 
 -- this stage doesn't run it: the system is beyond it, or an application holds a recording
 abbrev pub IsNotBuilt : System → Histories → Type 0
@@ -98,5 +103,5 @@ IsBuilt sys h = (is_beyond sys ≡ false) × AreEmpty (app_names sys) h
 
 -- the one pair of a system or that it has none, with its applications at their places in its order; or that it has several
 abbrev pub IsPairing : System → Pairing → Type 0
-IsPairing sys (Only pair) = IsOnlyPair sys (app_names sys) pair × (has_several sys ≡ false)
-IsPairing sys Several = has_several sys ≡ true
+IsPairing sys (Only pair) = IsOnlyPair sys (app_names sys) pair × (is_beyond sys ≡ false)
+IsPairing sys Several = is_beyond sys ≡ true

@@ -4,6 +4,7 @@ use Rattle.std.specs.declared.alloc.Global.{Global}
 use Rattle.std.specs.Prelude.{String}
 use Rattle.std.specs.Io.KnownBytes.{Appends}
 use Rattle.es_model.specs.declared.declaration.System.{System}
+use Rattle.es_model.specs.declared.snapshot.Snapshot.{Snapshot}
 use Rattle.es_model.specs.History.{Histories}
 use Rattle.es_model.specs.Values.{Name}
 use Rattle.es_io.specs.Documents.{NamedDocuments}
@@ -12,6 +13,7 @@ use Rattle.es_lines.specs.declared.ends.End.{End}
 use Rattle.es_lines.specs.declared.ends.End.TheVariants as end
 use Rattle.es_lines.specs.Texts.{end_text}
 use Rattle.es_process.specs.Consistent.{IsConsistent}
+use Rattle.es_process.specs.Contents.{Contents}
 use Rattle.es_process.specs.Reached.{IsReached}
 use Rattle.es_process.specs.Session.{IsSession, writes_in}
 use Rattle.es_process.specs.SingleThread.{Step, Run, added_counts, left_by, written_by, as_line}
@@ -27,24 +29,24 @@ use Rattle.es_top.specs.Ends.{ended, code_of}
 use Rattle.es_top.specs.Opened.{IsBuilt, IsNotBuilt}
 
 -- the first steps of the run of an input were made, none where this stage doesn't run the system, and then this tail was written; `left` says what is held
-pub record Made (sys : System) (input : List ℕ) (readings : Readings) (openings : Histories) (left : Histories → Type 0) (before now : Option (List ℕ)) (tail : List ℕ) : Type 0 where
+pub record Made (sys : System) (input : List ℕ) (readings : Readings) (opening : Contents) (left : Contents → Type 0) (before now : Option (List ℕ)) (tail : List ℕ) : Type 0 where
   pub run : Run
   pub done : List Step
   pub rest : List Step
-  pub is : IsRunOf (terms_of sys) input readings openings run
+  pub is : IsRunOf (terms_of sys) input readings opening run
   pub parts : run.steps ≡ done ++ rest
-  pub begun : IsBuilt sys openings ⊎ (done ≡ [])
-  pub held : left (left_by done openings)
+  pub begun : IsBuilt sys opening.histories ⊎ (done ≡ [])
+  pub held : left (left_by done opening)
   pub written : Appends before now (written_by done ++ tail)
 
 -- after which steps of a run an end may come, of which bytes these are left, and by what had to fail in the lines, the stores or the document
-module _ (lines stores document : Type 0) (sys : System) (input unread : List ℕ) (readings : Readings) (openings : Histories) (run : Run) (done rest : List Step) where
+module _ (lines stores document : Type 0) (sys : System) (input unread : List ℕ) (readings : Readings) (opening : Contents) (run : Run) (done rest : List Step) where
   -- a run's own end after all its steps; want of memory after any, and a recorder's failing likewise; a failed reading after all steps of the lines that were taken whole; that the system isn't run, or that its document couldn't be read, after none
   abbrev pub FollowsBy : Sort → End → Type 0
-  FollowsBy itself e = IsBuilt sys openings × (rest ≡ []) × (run.end ≡ e)
+  FollowsBy itself e = IsBuilt sys opening.histories × (rest ≡ []) × (run.end ≡ e)
   FollowsBy stopped e = e ≡ end.Recorder → stores
-  FollowsBy in_lines e = lines × ReadTo (terms_of sys) input readings openings (Some unread) done
-  FollowsBy unbuilt e = IsNotBuilt sys openings × (done ≡ [])
+  FollowsBy in_lines e = lines × ReadTo (terms_of sys) input readings opening (Some unread) done
+  FollowsBy unbuilt e = IsNotBuilt sys opening.histories × (done ≡ [])
   FollowsBy unbegun e = (e ≡ end.System) × document × (done ≡ [])
 
   abbrev pub Follows : End → Type 0
@@ -61,18 +63,23 @@ pub record IsDone (sys : System) (input : List ℕ) (openings histories : Histor
   pub all : count ≡ length (lines_for (rules_of sys) input)
   pub counts : added ≡ added_counts (rules_of sys).names openings histories
 
--- what a call leaves that runs a system over an input, readings and openings: first steps of the run and what comes after them, by the status; a session over histories that are consistent over the openings; and all of the run where it ended well
-pub record Ran (lines stores document : Type 0) (sys : System) (input unread : List ℕ) (readings : Readings) (openings : Histories) (held : Option Histories) (before now : Option (List ℕ)) (s : Status) : Type 0 where
+-- the stores tell what the applications keep: their histories and their snapshots
+pub record StoresTell (c : Contents) (held : Option Histories) (kept : Option (Name → List Snapshot)) : Type 0 where
+  pub histories : held ≡ Some c.histories
+  pub snapshots : kept ≡ Some c.snapshots
+
+-- what a call leaves that runs a system over an input, readings and what the stores held: first steps of the run and what comes after them, by the status; a session over histories that are consistent over the opening ones; and all of the run where it ended well
+pub record Ran (lines stores document : Type 0) (sys : System) (input unread : List ℕ) (readings : Readings) (opening : Contents) (held : Option Histories) (kept : Option (Name → List Snapshot)) (before now : Option (List ℕ)) (s : Status) : Type 0 where
   pub tail : List ℕ
-  pub made : Made sys input readings openings (λ histories. held ≡ Some histories) before now tail
-  pub closes : Closes lines stores document sys input unread readings openings made.run made.done made.rest tail (ended s)
-  pub consistent : IsConsistent (rules_of sys) openings (left_by made.done openings)
-  pub session : IsSession (rules_of sys) limits openings (left_by made.done openings) readings (lines_for (rules_of sys) input) (writes_in made.done) (written_by made.done) (code_of s)
-  pub well : (added : List (Name × ℕ)) (count : ℕ) → s ≡ status.Ok added count → IsDone sys input openings (left_by made.done openings) added count
+  pub made : Made sys input readings opening (λ c. StoresTell c held kept) before now tail
+  pub closes : Closes lines stores document sys input unread readings opening made.run made.done made.rest tail (ended s)
+  pub consistent : IsConsistent (rules_of sys) opening.histories (left_by made.done opening).histories
+  pub session : IsSession (rules_of sys) limits opening (left_by made.done opening).histories readings (lines_for (rules_of sys) input) (writes_in made.done) (written_by made.done) (code_of s)
+  pub well : (added : List (Name × ℕ)) (count : ℕ) → s ≡ status.Ok added count → IsDone sys input opening.histories (left_by made.done opening).histories added count
 
 -- where the words ask for a system, the sample or what a document declares that is told, and the stores are told
-abbrev pub WhereDeclared : Option NamedDocuments → List (String Global) → Option Histories → (System → Histories → Type 0) → Type 0
-WhereDeclared documents words held P = (sys : System) (h : Histories) → declares documents words ≡ Some (Ok sys) → held ≡ Some h → P sys h
+abbrev pub WhereDeclared : Option NamedDocuments → List (String Global) → Option Histories → Option (Name → List Snapshot) → (System → Contents → Type 0) → Type 0
+WhereDeclared documents words held kept P = (sys : System) (opening : Contents) → declares documents words ≡ Some (Ok sys) → StoresTell opening held kept → P sys opening
 
 -- the stores hold histories that are consistent over the openings: each recording follows from a line or from a leader's notification, each notification once and in order, and no two recordings cause each other
 pub record LeavesConsistent (sys : System) (openings : Histories) (held : Option Histories) : Type 0 where

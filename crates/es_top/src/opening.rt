@@ -10,16 +10,16 @@ ghost use Rattle.es_expr.specs.Checked.{IsCheckedSystem};
 ghost use Rattle.es_io.specs.Readings.{Readings};
 ghost use Rattle.es_decl.specs.Pairs.{pairs_of};
 ghost use Rattle.es_recorder.specs.Held.{put, SameElsewhere, ClosesTold};
-ghost use Rattle.es_process.specs.Answer.{Options};
 ghost use Rattle.es_process.specs.Applications.{IsOpened, name_of, recorder_of};
+ghost use Rattle.es_process.specs.Contents.{Contents};
 ghost use Rattle.es_process.specs.Drains.{IsPairOf};
 ghost use Rattle.es_process.specs.SingleThread.{is_among};
-ghost use Rattle.es_process.specs.Standing.{State, Holds, HoldHistories, IsSame, SomeRose, AreDistinct, names_in};
+ghost use Rattle.es_process.specs.Standing.{Holds, IsSame, SomeRose, AreDistinct, names_in};
 ghost use Rattle.es_process.specs.SystemRules.{app_names};
 ghost use Rattle.es_single.specs.Limits.{limits};
 ghost use Rattle.es_single.specs.Runs.{state_of};
-ghost use Rattle.es_top.specs.Opened.{AreKept, AreOpened, AreHandedOut, IsFrontOfNames, marked, HoldElsewhere, TellEach, AreFresh, IsUnused, SomeFailed, IsOccupiedTest, has_interval as has_interval_of, IsPairing};
-ghost use Rattle.es_top.specs.Top.{IsLeft};
+ghost use Rattle.es_top.specs.Opened.{AreKept, AreOpened, AreHandedOut, ClosesEach, IsFrontOfNames, marked, HoldElsewhere, TellEach, AreFresh, IsUnused, SomeFailed, IsOccupiedTest, IsPairing};
+ghost use Rattle.es_top.specs.Top.{IsLeft, StoresTell};
 
 use es_decl::pairs;
 use es_model::limits::{DEFAULT_TURNS, MOST_CAPACITY};
@@ -35,16 +35,6 @@ pub enum Pairing {
     Only(Option<Pair>),
     /// There are more.
     Several,
-}
-
-/// Whether a class wants snapshots at an interval.
-pub fn has_interval(sys: &System) -> bool
-    ensures { result ≡ has_interval_of sys.now }
-{
-    sys.classes
-        .as_slice()
-        .iter()
-        .any(|class| class.interval.is_some())
 }
 
 // The place of the first application of a name.
@@ -183,8 +173,9 @@ pub fn open_all<M: Stores>(
     sys: &System,
 ) -> Result<Vec<Application<M::R>>, CallFault>
     requires { AreDistinct (app_names sys.now) }
-    ensures opened { (readings : Option Readings) (r : Readings) (h : Histories) → readings ≡ Some r → M.held stores.old ≡ Some h → IfOk result (λ apps. Holds M.R.history M.R.capacity h limits apps.items readings (state_of h r)) }
-    ensures opened_snapshots { (q : Name → List Snapshot) → M.snapshots stores.old ≡ Some q → IfOk result (λ apps. TellEach M.R.snapshots q apps.items) }
+    ensures opened { (readings : Option Readings) (r : Readings) (opening : Contents) → readings ≡ Some r → StoresTell opening (M.held stores.old) (M.snapshots stores.old) → IfOk result (λ apps. Holds M.R.history M.R.snapshots M.R.capacity opening limits apps.items readings (state_of opening r)) }
+    ensures histories { (h : Histories) → M.held stores.old ≡ Some h → IfOk result (λ apps. TellEach M.R.history h apps.items) }
+    ensures snapshots { (q : Name → List Snapshot) → M.snapshots stores.old ≡ Some q → IfOk result (λ apps. TellEach M.R.snapshots q apps.items) }
     ensures named { IfOk result (λ apps. names_in apps.items ≡ app_names sys.now) }
     ensures fresh { IfOk result (λ apps. AreFresh M.R.faults apps.items) }
     ensures out { OnOk result ((n : Name) → M.out stores.new n ≡ marked (M.out stores.old) (app_names sys.now) true n) }
@@ -211,10 +202,8 @@ pub fn open_all<M: Stores>(
 /// Closes applications, which are the first of those that are declared.
 pub fn close_all<M: Stores>(stores: &mut M, declared: &[App], mut apps: Vec<Application<M::R>>)
     requires front { IsFrontOfNames (names_in apps.items) (map (λ a. a.name) declared.now) }
-    ensures closed { (base : Histories) (h : Histories) → AreDistinct (names_in apps.items) → ((n : Name) → is_among n (names_in apps.items) ≡ true → M.out stores.old n ≡ true)
-        → HoldElsewhere (names_in apps.items) base (M.held stores.old) → HoldHistories M.R.history base apps.items h → M.held stores.new ≡ Some h }
-    ensures closed_snapshots { (base : Name → List Snapshot) (q : Name → List Snapshot) → AreDistinct (names_in apps.items) → ((n : Name) → is_among n (names_in apps.items) ≡ true → M.out stores.old n ≡ true)
-        → HoldElsewhere (names_in apps.items) base (M.snapshots stores.old) → TellEach M.R.snapshots q apps.items → ((n : Name) → is_among n (names_in apps.items) ≡ false → q n ≡ base n) → M.snapshots stores.new ≡ Some q }
+    ensures closed { ClosesEach M.R.history apps.items (M.out stores.old) (M.held stores.old) (M.held stores.new) }
+    ensures closed_snapshots { ClosesEach M.R.snapshots apps.items (M.out stores.old) (M.snapshots stores.old) (M.snapshots stores.new) }
     ensures in_again { (n : Name) → M.out stores.new n ≡ marked (M.out stores.old) (names_in apps.items) false n }
     ensures later { M.faults stores.old ≤ M.faults stores.new }
     ensures risen { SomeFailed M.R.faults apps.items → Rose (M.faults stores.old) (M.faults stores.new) }
@@ -239,7 +228,7 @@ fn is_used<R: ProcessRecorder>(app: &mut Application<R>) -> Result<bool, CallFau
 
 /// Whether an application holds a recording.
 pub fn is_occupied<R: ProcessRecorder>(apps: &mut [Application<R>]) -> Result<bool, CallFault>
-    ensures told { (base : Histories) (options : Options) (readings : Option Readings) (s : State) → Holds R.history R.capacity base options apps.old readings s → IfOk result (IsOccupiedTest (names_in apps.old) s.histories) }
+    ensures told { (h : Histories) → TellEach R.history h apps.old → IfOk result (IsOccupiedTest (names_in apps.old) h) }
     ensures same { AreKept R.history R.capacity R.snapshots R.faults apps.old apps.new }
     ensures recorder { IsErrOf result CallFault.Failed → SomeRose R.faults apps.old apps.new }
 {

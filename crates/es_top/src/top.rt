@@ -13,9 +13,10 @@ ghost use Rattle.es_io.specs.Readings.{Readings};
 ghost use Rattle.es_decl.specs.Readings.{Reading};
 ghost use Rattle.es_lines.specs.declared.ends.End.{End as EndOf};
 ghost use Rattle.es_lines.specs.Texts.{end_text as text_of_end};
+ghost use Rattle.es_process.specs.Contents.{Contents};
 ghost use Rattle.es_process.specs.Drains.{IsOnlyPair};
 ghost use Rattle.es_process.specs.SingleThread.{as_line, HasOneRun, start};
-ghost use Rattle.es_process.specs.Standing.{Holds, HoldHistories, AllStay, SomeRose, names_in};
+ghost use Rattle.es_process.specs.Standing.{Holds, HoldContents, AllStay, SomeRose, names_in};
 ghost use Rattle.es_process.specs.SystemRules.{rules_of, app_names};
 ghost use Rattle.es_single.specs.Limits.{limits, TakesLines};
 ghost use Rattle.es_single.specs.Runs.{state_of};
@@ -24,15 +25,15 @@ ghost use Rattle.es_top.specs.Declares.{IsEndUnasked, declares, IsNotAsked};
 ghost use Rattle.es_single.specs.Ends.{itself, sort_of, unbegun};
 ghost use Rattle.es_top.specs.Ends.{end_of_load, ended, sorted, status_of_load, IsStopped, Writes};
 ghost use Rattle.es_top.specs.Loads.{TakesDocument};
-ghost use Rattle.es_top.specs.Opened.{IsNotBuilt, IsBuilt, is_beyond};
+ghost use Rattle.es_top.specs.Opened.{AreTold, IsNotBuilt, IsBuilt, TellEach, is_beyond};
 ghost use Rattle.es_top.specs.inner.Ran.{IsOfSystem, Stands};
-ghost use Rattle.es_top.specs.Top.{IfTold, IsLeft, LeavesConsistent, Ran, WhereDeclared};
+ghost use Rattle.es_top.specs.Top.{IfTold, IsLeft, LeavesConsistent, Ran, StoresTell, WhereDeclared};
 ghost use Rattle.es_top.specs.Words.{system_in};
 
 use crate::Status;
 use crate::ending::finish;
 use crate::loading::{LoadFault, load};
-use crate::opening::{Pairing, close_all, has_interval, is_occupied, open_all, pairing_of};
+use crate::opening::{Pairing, close_all, is_occupied, open_all, pairing_of};
 use crate::words::system_word;
 use es_io::{Clock, Document, Sink, Source};
 use es_lines::End;
@@ -53,12 +54,15 @@ fn run_opened<S: Source, T: Sink, R: ProcessRecorder, C: Clock>(
 ) -> Result<End, Failed>
     requires pair { IsOnlyPair sys.now (names_in apps.old) pair.now }
     requires built { is_beyond sys.now ≡ false }
-    ensures stands { OfInput (S.left lines.old) (S.left lines.new) (C.readings clock.old) (λ i rest r. (h : Histories) → Holds R.history R.capacity h limits apps.old (Some r) (state_of h r)
-        → Stands sys.now i rest r h (HoldHistories R.history h apps.new) (T.written out.old) (T.written out.new) result) }
+    ensures stands { OfInput (S.left lines.old) (S.left lines.new) (C.readings clock.old) (λ i rest r. (opening : Contents) → Holds R.history R.snapshots R.capacity opening limits apps.old (Some r) (state_of opening r)
+        → Stands sys.now i rest r opening (HoldContents R.history R.snapshots opening apps.new) (T.written out.old) (T.written out.new) result) }
     ensures of_system { IfOk result IsOfSystem }
+    ensures built { IfOk result (λ e. sort_of e ≡ itself → (h : Histories) → TellEach R.history h apps.old → IsBuilt sys.now h) }
+    ensures not_built { result ≡ Ok End.NotBuilt → (h : Histories) → TellEach R.history h apps.old → IsNotBuilt sys.now h }
+    ensures not_built_apps { result ≡ Ok End.NotBuilt → AreTold R.history R.snapshots apps.old apps.new }
     ensures silent { result ≡ Ok End.NotBuilt → T.written out.new ≡ T.written out.old }
     ensures out_later { T.faults out.old ≤ T.faults out.new }
-    ensures same { AllStay R.snapshots R.faults apps.old apps.new }
+    ensures same { AllStay R.faults apps.old apps.new }
     ensures bound { TakesLines (S.left lines.old) (S.left lines.new) }
     ensures input { result ≡ Ok End.Input → Rose (S.faults lines.old) (S.faults lines.new) }
     ensures sink { OnErr result (Rose (T.faults out.old) (T.faults out.new)) }
@@ -87,12 +91,14 @@ fn run_pair<S: Source, T: Sink, M: Stores, C: Clock>(
 ) -> Result<End, Failed>
     requires pair { IsOnlyPair sys.now (app_names sys.now) pair.now }
     requires built { is_beyond sys.now ≡ false }
-    ensures stands { OfInput (S.left lines.old) (S.left lines.new) (C.readings clock.old) (λ i rest r. (h : Histories) → M.held stores.old ≡ Some h
-        → Stands sys.now i rest r h (λ k. M.held stores.new ≡ Some k) (T.written out.old) (T.written out.new) result) }
+    ensures stands { OfInput (S.left lines.old) (S.left lines.new) (C.readings clock.old) (λ i rest r. (opening : Contents) → StoresTell opening (M.held stores.old) (M.snapshots stores.old)
+        → Stands sys.now i rest r opening (λ c. StoresTell c (M.held stores.new) (M.snapshots stores.new)) (T.written out.old) (T.written out.new) result) }
     ensures of_system { IfOk result IsOfSystem }
+    ensures built { IfOk result (λ e. sort_of e ≡ itself → IfTold (M.held stores.old) (IsBuilt sys.now)) }
+    ensures not_built { result ≡ Ok End.NotBuilt → IfTold (M.held stores.old) (IsNotBuilt sys.now) }
+    ensures not_built_stores { result ≡ Ok End.NotBuilt → IsLeft (M.held stores.old) (M.held stores.new) × IsLeft (M.snapshots stores.old) (M.snapshots stores.new) }
     ensures silent { result ≡ Ok End.NotBuilt → T.written out.new ≡ T.written out.old }
     ensures closed { (name : Name) → M.out stores.new name ≡ M.out stores.old name }
-    ensures same_snapshots { IsLeft (M.snapshots stores.old) (M.snapshots stores.new) }
     ensures out_later { T.faults out.old ≤ T.faults out.new }
     ensures bound { TakesLines (S.left lines.old) (S.left lines.new) }
     ensures input { result ≡ Ok End.Input → Rose (S.faults lines.old) (S.faults lines.new) }
@@ -110,7 +116,7 @@ fn run_pair<S: Source, T: Sink, M: Stores, C: Clock>(
     }
 }
 
-// Runs a system over the stores. This stage runs one with at most one pair, and without snapshots.
+// Runs a system over the stores. This stage runs one with at most one pair.
 fn run_system<S: Source, T: Sink, M: Stores, C: Clock>(
     alloc: Global,
     sys: &System,
@@ -120,21 +126,20 @@ fn run_system<S: Source, T: Sink, M: Stores, C: Clock>(
     clock: &mut C,
 ) -> Result<End, Failed>
     requires { IsCheckedSystem sys.now }
-    ensures stands { OfInput (S.left lines.old) (S.left lines.new) (C.readings clock.old) (λ i rest r. (h : Histories) → M.held stores.old ≡ Some h
-        → Stands sys.now i rest r h (λ k. M.held stores.new ≡ Some k) (T.written out.old) (T.written out.new) result) }
+    ensures stands { OfInput (S.left lines.old) (S.left lines.new) (C.readings clock.old) (λ i rest r. (opening : Contents) → StoresTell opening (M.held stores.old) (M.snapshots stores.old)
+        → Stands sys.now i rest r opening (λ c. StoresTell c (M.held stores.new) (M.snapshots stores.new)) (T.written out.old) (T.written out.new) result) }
     ensures of_system { IfOk result IsOfSystem }
+    ensures built { IfOk result (λ e. sort_of e ≡ itself → IfTold (M.held stores.old) (IsBuilt sys.now)) }
+    ensures not_built { result ≡ Ok End.NotBuilt → IfTold (M.held stores.old) (IsNotBuilt sys.now) }
+    ensures not_built_stores { result ≡ Ok End.NotBuilt → IsLeft (M.held stores.old) (M.held stores.new) × IsLeft (M.snapshots stores.old) (M.snapshots stores.new) }
     ensures silent { result ≡ Ok End.NotBuilt → T.written out.new ≡ T.written out.old }
     ensures closed { (name : Name) → M.out stores.new name ≡ M.out stores.old name }
-    ensures same_snapshots { IsLeft (M.snapshots stores.old) (M.snapshots stores.new) }
     ensures out_later { T.faults out.old ≤ T.faults out.new }
     ensures bound { TakesLines (S.left lines.old) (S.left lines.new) }
     ensures input { result ≡ Ok End.Input → Rose (S.faults lines.old) (S.faults lines.new) }
     ensures sink { OnErr result (Rose (T.faults out.old) (T.faults out.new)) }
     ensures recorder { result ≡ Ok End.Recorder → Rose (M.faults stores.old) (M.faults stores.new) }
 {
-    if has_interval(sys) {
-        return Ok(End::NotBuilt);
-    }
     match pairing_of(alloc, sys) {
         Ok(Pairing::Only(pair)) => run_pair(alloc, sys, &pair, lines, out, stores, clock),
         Ok(Pairing::Several) => Ok(End::NotBuilt),
@@ -152,8 +157,8 @@ fn run_to_end<S: Source, T: Sink, M: Stores, C: Clock>(
     clock: &mut C,
 ) -> Status
     requires { IsCheckedSystem sys.now }
-    ensures ran { (h : Histories) → M.held stores.old ≡ Some h → OfInput (S.left lines.old) (S.left lines.new) (C.readings clock.old)
-        (λ i rest r. Ran (Rose (S.faults lines.old) (S.faults lines.new)) (Rose (M.faults stores.old) (M.faults stores.new)) ⊥ sys.now i rest r h (M.held stores.new) (T.written out.old) (T.written out.new) result) }
+    ensures ran { (opening : Contents) → StoresTell opening (M.held stores.old) (M.snapshots stores.old) → OfInput (S.left lines.old) (S.left lines.new) (C.readings clock.old)
+        (λ i rest r. Ran (Rose (S.faults lines.old) (S.faults lines.new)) (Rose (M.faults stores.old) (M.faults stores.new)) ⊥ sys.now i rest r opening (M.held stores.new) (M.snapshots stores.new) (T.written out.old) (T.written out.new) result) }
     ensures begun { sorted result ≡ Some unbegun → ⊥ }
     ensures bound { TakesLines (S.left lines.old) (S.left lines.new) }
     ensures input { result ≡ Status.Input → Rose (S.faults lines.old) (S.faults lines.new) }
@@ -161,10 +166,9 @@ fn run_to_end<S: Source, T: Sink, M: Stores, C: Clock>(
     ensures recorder { result ≡ Status.Recorder → Rose (M.faults stores.old) (M.faults stores.new) }
     ensures built { sorted result ≡ Some itself → IfTold (M.held stores.old) (IsBuilt sys.now) }
     ensures not_built { result ≡ Status.NotBuilt → IfTold (M.held stores.old) (IsNotBuilt sys.now) }
-    ensures not_built_stores { result ≡ Status.NotBuilt → IsLeft (M.held stores.old) (M.held stores.new) }
+    ensures not_built_stores { result ≡ Status.NotBuilt → IsLeft (M.held stores.old) (M.held stores.new) × IsLeft (M.snapshots stores.old) (M.snapshots stores.new) }
     ensures not_built_line { result ≡ Status.NotBuilt → Appends (T.written out.old) (T.written out.new) (as_line (text_of_end End.NotBuilt)) }
     ensures closed { (name : Name) → M.out stores.new name ≡ M.out stores.old name }
-    ensures same_snapshots { IsLeft (M.snapshots stores.old) (M.snapshots stores.new) }
 {
     match run_system(alloc, sys, lines, out, stores, clock) {
         Ok(end) => finish(alloc, out, end),
@@ -215,18 +219,18 @@ pub fn evsys_single<D: Document, S: Source, T: Sink, M: Stores, C: Clock>(
     clock: &mut C,
 ) -> Status
     // There are an input, what is left of it and readings, those that are told where they are told, of which all this holds.
-    // What the run records and writes, and how it ends, is that of the plain run on one thread: of its first steps, all where it came to an end of its
+    // What the run records, which snapshots it puts, what it writes, and how it ends, is that of the plain run on one thread: of its first steps, all where it came to an end of its
     // own, with the end line after them, or after a failed sink a front of what would have come next. What is held is consistent over the openings, the
     // bytes are a session over it, and where it ended well each follower has reached its leaders, and all lines were answered and are counted.
-    ensures ran { WhereDeclared (D.documents system.old) words.now (M.held stores.old) (λ sys h. OfInput (S.left lines.old) (S.left lines.new) (C.readings clock.old)
-        (λ i rest r. Ran (Rose (S.faults lines.old) (S.faults lines.new)) (Rose (M.faults stores.old) (M.faults stores.new)) (Rose (D.faults system.old) (D.faults system.new)) sys i rest r h (M.held stores.new) (T.written out.old) (T.written out.new) result)) }
+    ensures ran { WhereDeclared (D.documents system.old) words.now (M.held stores.old) (M.snapshots stores.old) (λ sys opening. OfInput (S.left lines.old) (S.left lines.new) (C.readings clock.old)
+        (λ i rest r. Ran (Rose (S.faults lines.old) (S.faults lines.new)) (Rose (M.faults stores.old) (M.faults stores.new)) (Rose (D.faults system.old) (D.faults system.new)) sys i rest r opening (M.held stores.new) (M.snapshots stores.new) (T.written out.old) (T.written out.new) result)) }
 
     // At every status the histories are consistent over the opening ones: each added recording is what its cause decides over
     // those before it, each notification is recorded once and in order, and no two recordings cause each other.
-    ensures consistent { WhereDeclared (D.documents system.old) words.now (M.held stores.old) (λ sys h. LeavesConsistent sys h (M.held stores.new)) }
+    ensures consistent { WhereDeclared (D.documents system.old) words.now (M.held stores.old) (M.snapshots stores.old) (λ sys opening. LeavesConsistent sys opening.histories (M.held stores.new)) }
 
     // Of any system, over any opening contents, clock readings and lines there is exactly one plain run.
-    ensures one_run { (sys : SystemOf) (openings : Histories) (readings : Readings) (lines : List Line) → HasOneRun (rules_of sys) limits openings (start (rules_of sys) openings readings lines) }
+    ensures one_run { (sys : SystemOf) (opening : Contents) (readings : Readings) (lines : List Line) → HasOneRun (rules_of sys) limits opening.histories (start (rules_of sys) opening readings lines) }
 
     // Status 2: exactly the wrong words, but for a failing sink.
     ensures usage { result ≡ Status.Usage → system_in words.now ≡ None }
@@ -266,14 +270,11 @@ pub fn evsys_single<D: Document, S: Source, T: Sink, M: Stores, C: Clock>(
     // Status 15: exactly where this stage doesn't run the system, or an opened store holds a recording. The stores stay so.
     ensures built { (sys : SystemOf) → declares (D.documents system.old) words.now ≡ Some (Ok sys) → sorted result ≡ Some itself → IfTold (M.held stores.old) (IsBuilt sys) }
     ensures not_built { (sys : SystemOf) → declares (D.documents system.old) words.now ≡ Some (Ok sys) → result ≡ Status.NotBuilt → IfTold (M.held stores.old) (IsNotBuilt sys) }
-    ensures not_built_stores { result ≡ Status.NotBuilt → IsLeft (M.held stores.old) (M.held stores.new) }
+    ensures not_built_stores { result ≡ Status.NotBuilt → IsLeft (M.held stores.old) (M.held stores.new) × IsLeft (M.snapshots stores.old) (M.snapshots stores.new) }
     ensures not_built_line { result ≡ Status.NotBuilt → Appends (T.written out.old) (T.written out.new) (as_line (text_of_end End.NotBuilt)) }
 
     // At every status each recorder that was opened is closed.
     ensures closed { (name : Name) → M.out stores.new name ≡ M.out stores.old name }
-
-    // No run changes a snapshot.
-    ensures same_snapshots { IsLeft (M.snapshots stores.old) (M.snapshots stores.new) }
 {
     let Some(name) = system_word(words) else {
         return end_usage(alloc, out);

@@ -2,17 +2,19 @@
 use Rattle.std.specs.Prelude.{◌≡◌, ◌⊎◌, ℕ, List, [], ◌∷◌, ◌++◌, length, Option, Some, None, Result, Ok, Err, is_some, true}
 use Rattle.es_model.specs.declared.event.StoredEvent.{StoredEvent}
 use Rattle.es_model.specs.declared.event.Recording.{Recording}
+use Rattle.es_model.specs.declared.snapshot.Snapshot.{Snapshot}
 use Rattle.es_model.specs.History.{log}
+use Rattle.es_model.specs.Snapshots.{put_snapshot}
 use Rattle.es_model.specs.Values.{Name}
 use Rattle.es_io.specs.Readings.{Readings}
 use Rattle.es_recorder.specs.Insert.{first_conflict, repeated, too_many, inserted}
 use Rattle.es_recorder.specs.declared.recorder.Inserted.{Inserted}
 use Rattle.es_process.specs.declared.faults.RunFault.{RunFault}
 use Rattle.es_process.specs.declared.faults.RunFault.TheVariants as fault
-use Rattle.es_process.specs.Answer.{Followed, stops}
+use Rattle.es_process.specs.Answer.{Followed, stops, put_each}
 use Rattle.es_process.specs.Decision.{Decision, events, refused, unreadable}
 use Rattle.es_process.specs.Faults.{ByFault}
-use Rattle.es_process.specs.Leaves.{IsAdded, Took, MayTake}
+use Rattle.es_process.specs.Leaves.{Tells, PutsFirst, IsAdded, Took, MayTake}
 
 -- nothing but want of room refuses a recording
 pub record Fits (h : List Recording) (r : Recording) : Type 0 where
@@ -49,12 +51,22 @@ MayRefuse fault.NoMemory = Unit {0}
 MayRefuse (fault.Full name last most) = ⊥
 MayRefuse (fault.Turns name turns) = ⊥
 
--- what the next notification leaves
-abbrev pub Takes : Followed → List Recording → ℕ → Readings → Result Inserted RunFault → Option (List Recording) → ℕ → Option Readings → Type 0
-Takes f h used r (Ok i) new now later = Took f h used r i.first i.last new now later
-Takes f h used r (Err e) new now later = ByFault e (λ x. (f ≡ stops x) × (new ≡ Some h)) (MayTake f h new) (new ≡ Some h)
+-- a snapshot is put, or not where memory ran out; of a failed recorder either may be
+abbrev pub PutsOne : Snapshot → List Snapshot → Result (Unit {0}) RunFault → Option (List Snapshot) → Type 0
+PutsOne s q (Ok x) now = now ≡ Some (put_snapshot q s)
+PutsOne s q (Err f) now = (now ≡ Some q) ⊎ (now ≡ Some (put_snapshot q s))
 
--- what the recording of the next notification at a moment leaves of a history
-abbrev pub Records : Followed → List Recording → Result Inserted RunFault → Option (List Recording) → Type 0
-Records f h (Ok i) new = IsAdded f h i.first i.last new
-Records f h (Err e) new = ByFault e (λ x. (f ≡ stops x) × (new ≡ Some h)) (MayTake f h new) (new ≡ Some h)
+-- some snapshots are put, or the first of them where the recorder failed or memory ran out
+abbrev pub PutsDue : List Snapshot → List Recording → List Snapshot → Result (Unit {0}) RunFault → Option (List Recording) → Option (List Snapshot) → Type 0
+PutsDue ss h q (Ok x) new now = Tells h (put_each q ss) new now
+PutsDue ss h q (Err f) new now = PutsFirst ss h q new now
+
+-- what the next notification leaves
+abbrev pub Takes : Followed → List Recording → List Snapshot → ℕ → Readings → Result Inserted RunFault → Option (List Recording) → Option (List Snapshot) → ℕ → Option Readings → Type 0
+Takes f h q used r (Ok i) new now count later = Took f h q used r i.first i.last new now count later
+Takes f h q used r (Err e) new now count later = ByFault e (λ x. (f ≡ stops x) × Tells h q new now) (MayTake f h q new now) (MayTake f h q new now)
+
+-- what the recording of the next notification at a moment leaves
+abbrev pub Records : Followed → List Recording → List Snapshot → Result Inserted RunFault → Option (List Recording) → Option (List Snapshot) → Type 0
+Records f h q (Ok i) new now = IsAdded f h q i.first i.last new now
+Records f h q (Err e) new now = ByFault e (λ x. (f ≡ stops x) × Tells h q new now) (MayTake f h q new now) (MayTake f h q new now)

@@ -1,17 +1,20 @@
 -- What answering lines over opened applications leaves.
-use Rattle.std.specs.Prelude.{◌≡◌, ◌⊎◌, ℕ, ◌+◌, true, false, List, [], ◌∷◌, ◌++◌, length, Option, None, Some, Result, Ok, Err, IfErr}
+use Rattle.std.specs.Prelude.{◌≡◌, ◌⊎◌, ℕ, ◌+◌, true, false, List, [], ◌∷◌, ◌++◌, length, Option, Result, Ok, Err, IfErr}
 use Rattle.std.specs.Io.KnownBytes.{Appends}
+use Rattle.es_model.specs.declared.declaration.System.{System}
 use Rattle.es_model.specs.History.{Histories}
 use Rattle.es_model.specs.Lines.{Line, over}
 use Rattle.es_model.specs.Values.{Name}
 use Rattle.es_io.specs.Front.{AppendsFront}
 use Rattle.es_lines.specs.declared.replies.Reply.{Reply}
 use Rattle.es_lines.specs.declared.replies.Reply.TheVariants as reply
+use Rattle.es_lines.specs.Requests.{asks, request_in}
 use Rattle.es_lines.specs.declared.request.Request.{Request}
-use Rattle.es_lines.specs.declared.request.Request.TheVariants.{Do, Get, Log, Tracking, Sync, Stop as StopOf}
+use Rattle.es_lines.specs.declared.request.Request.TheVariants.{Do, Get, Log, Tracking, Snapshot, Sync, Stop as StopOf}
 use Rattle.es_lines.specs.declared.ends.End.TheVariants as end
 use Rattle.es_lines.specs.Texts.{reply_text}
 use Rattle.es_process.specs.declared.faults.RunFault.TheVariants as fault
+use Rattle.es_process.specs.Contents.{Contents}
 use Rattle.es_process.specs.Decision.{Rules}
 use Rattle.es_process.specs.SingleThread.{Step, Goes, leaders_of, stops_lines, up_to_stop, written_by, as_line}
 use Rattle.es_process.specs.Standing.{State, Places, stand, Came, Ended, CutInText, Faulted}
@@ -83,6 +86,12 @@ SaysWord (Do app c) before now result = ⊥
 SaysWord (Get app id version) before now result = ⊥
 SaysWord (Log app section) before now result = ⊥
 SaysWord (Tracking app leader) before now result = ⊥
+SaysWord (Snapshot app id) before now result = ⊥
+
+-- some line asks this
+pub record IsAsked (sys : System) (r : Request) : Type 0 where
+  pub line : List ℕ
+  pub is : request_in sys line ≡ asks r
 
 -- this line comes next, and nothing is to be drained
 abbrev pub at_line : State → Line → Places
@@ -99,32 +108,10 @@ after_reply s prompted = λ σ. stand s prompted [] σ.lines (σ.answered + 1)
 -- whom a reply prompts: an accepted command these, and any other nobody
 abbrev pub prompted_by : Reply → List Name → List Name
 prompted_by (reply.Accepted recording first last version) prompted = prompted
-prompted_by (reply.Refused code) prompted = []
-prompted_by reply.Syntax prompted = []
-prompted_by reply.Unknown prompted = []
-prompted_by reply.Kind prompted = []
-prompted_by reply.Long prompted = []
-prompted_by (reply.Conflict latest) prompted = []
-prompted_by (reply.Unreadable app id) prompted = []
-prompted_by (reply.Got id version class created_on modified_on fields) prompted = []
-prompted_by (reply.Log id items next) prompted = []
-prompted_by (reply.Tracking position) prompted = []
-prompted_by reply.Sync prompted = []
-prompted_by reply.Stop prompted = []
-prompted_by reply.NotFound prompted = []
-prompted_by reply.Section prompted = []
-
--- the application of which a line asks something
-abbrev pub app_asked : Request → Option Name
-app_asked (Do app c) = Some app
-app_asked (Get app id version) = Some app
-app_asked (Log app section) = Some app
-app_asked (Tracking app leader) = Some app
-app_asked Sync = None
-app_asked StopOf = None
+prompted_by said prompted = []
 
 -- the drain after a reply
-abbrev pub DrainsAfter : Terms → State → (State → Type 0) → List Name → (Histories → Type 0) → Option (List ℕ) → Result (Unit {0}) Stop → Type 0
+abbrev pub DrainsAfter : Terms → State → (State → Type 0) → List Name → (Contents → Type 0) → Option (List ℕ) → Result (Unit {0}) Stop → Type 0
 DrainsAfter t s holds prompted left u (Ok x) = Came t (after_reply s prompted) holds u u past_it
 DrainsAfter t s holds prompted left u (Err (stop.Fault f)) = Faulted t (after_reply s prompted) f left u u
 DrainsAfter t s holds prompted left u (Err stop.Sink) = ⊥
@@ -140,18 +127,18 @@ pub record Replied (said : Reply) (before : Option (List ℕ)) (P : Option (List
   pub later : P middle
 
 -- a reply, and the drain after it
-abbrev pub RepliesAndDrains : Terms → State → (State → Type 0) → List Name → Reply → (Histories → Type 0) → Option (List ℕ) → Option (List ℕ) → Result (Unit {0}) Stop → Type 0
+abbrev pub RepliesAndDrains : Terms → State → (State → Type 0) → List Name → Reply → (Contents → Type 0) → Option (List ℕ) → Option (List ℕ) → Result (Unit {0}) Stop → Type 0
 RepliesAndDrains t s holds prompted said left before now (Ok x) = Replied said before (λ middle. Came t (after_reply s prompted) holds middle now past_it)
 RepliesAndDrains t s holds prompted said left before now (Err (stop.Fault f)) =
-    ((f ≡ fault.NoMemory) × (now ≡ before) × left s.histories) ⊎ Replied said before (λ middle. Faulted t (after_reply s prompted) f left middle now)
-RepliesAndDrains t s holds prompted said left before now (Err stop.Sink) = AppendsFront before now (as_line (reply_text said)) × left s.histories
+    ((f ≡ fault.NoMemory) × (now ≡ before) × left s.contents) ⊎ Replied said before (λ middle. Faulted t (after_reply s prompted) f left middle now)
+RepliesAndDrains t s holds prompted said left before now (Err stop.Sink) = AppendsFront before now (as_line (reply_text said)) × left s.contents
 RepliesAndDrains t s holds prompted said left before now (Err stop.End) = ⊥
 RepliesAndDrains t s holds prompted said left before now (Err stop.Asked) = ⊥
 RepliesAndDrains t s holds prompted said left before now (Err stop.Over) = ⊥
 RepliesAndDrains t s holds prompted said left before now (Err stop.Read) = ⊥
 
 -- what one line leaves
-abbrev pub AnswersLine : Terms → State → (State → Type 0) → Line → (Histories → Type 0) → Option (List ℕ) → Option (List ℕ) → Result (Unit {0}) Stop → Type 0
+abbrev pub AnswersLine : Terms → State → (State → Type 0) → Line → (Contents → Type 0) → Option (List ℕ) → Option (List ℕ) → Result (Unit {0}) Stop → Type 0
 AnswersLine t s holds line left before now (Ok x) = Came t (at_line s line) holds before now past_it
 AnswersLine t s holds line left before now (Err (stop.Fault f)) = Faulted t (at_line s line) f left before now
 AnswersLine t s holds line left before now (Err stop.Sink) = CutInText t (at_line s line) left before now
@@ -183,7 +170,7 @@ pub record Idle (s : State) (holds : State → Type 0) (before now : Option (Lis
   pub unwritten : now ≡ before
 
 -- what the next line leaves, where these lines are to come, and then those
-abbrev pub TakesTurn : Terms → State → (State → Type 0) → List Line → List Line → (Histories → Type 0) → Option (List ℕ) → Option (List ℕ) → Result (Unit {0}) Stop → Type 0
+abbrev pub TakesTurn : Terms → State → (State → Type 0) → List Line → List Line → (Contents → Type 0) → Option (List ℕ) → Option (List ℕ) → Result (Unit {0}) Stop → Type 0
 TakesTurn t s holds lines coming left before now (Ok x) = (line : Line) × (lines ≡ line ∷ coming) × (line ≡ over → ⊥) × (stops_lines t.rules line ≡ false) × Came t (at_line s line) holds before now past_it
 TakesTurn t s holds lines coming left before now (Err stop.Asked) = (line : Line) × (lines ≡ line ∷ coming) × (line ≡ over → ⊥) × (stops_lines t.rules line ≡ true) × Came t (at_line s line) holds before now past_it
 TakesTurn t s holds lines coming left before now (Err (stop.Fault f)) = ((f ≡ fault.NoMemory) × Idle s holds before now) ⊎ FirstOf (λ line. Faulted t (at_line s line) f left before now) lines
@@ -230,7 +217,7 @@ pub record Begun (t : Terms) (s next : State) (before now : Option (List ℕ)) :
   pub written : Appends before now (written_by steps)
 
 -- what serving all lines leaves, by why it stopped
-abbrev pub Serves : Terms → State → (State → Type 0) → List Line → Stop → ℕ → (Histories → Type 0) → Option (List ℕ) → Option (List ℕ) → Type 0
+abbrev pub Serves : Terms → State → (State → Type 0) → List Line → Stop → ℕ → (Contents → Type 0) → Option (List ℕ) → Option (List ℕ) → Type 0
 Serves t s holds lines stop.End count left before now = Came t (whole t s lines) holds before now (served [] count)
 Serves t s holds lines stop.Asked count left before now = Came t (whole t s lines) holds before now (served [] (count + 1))
 Serves t s holds lines stop.Over count left before now = Ended t (whole t s lines) left before now end.Over

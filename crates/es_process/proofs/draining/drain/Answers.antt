@@ -1,6 +1,6 @@
 use Rattle.std.proofs.Common.{arith, sym, subst, [], Some}
 use Rattle.es_process.specs.Drains.{IsOnlyPair}
-use Rattle.es_process.specs.Standing.{Holds, HoldHistories}
+use Rattle.es_process.specs.Standing.{Holds, HoldContents}
 use Rattle.es_process.specs.SystemRules.{rules_of}
 use Rattle.es_process.specs.Terms.{terms}
 use Rattle.es_process.proofs.HoldsLemmas.{all-none, all-then, rose-then}
@@ -11,7 +11,7 @@ use Rattle.es_process.proofs.draining.drain.Goals as goal
 pub loop-leader-init : goal.loop-leader-init
 loop-leader-init g c = record {
   drained = λ after may. (after, may, λ base options s u held. stays (terms (rules_of c.args.sys.now) options) s c.args.prompted.now [] _ u held);
-  same = all-none g.R.AggregateRecorder.snapshots g.R.AggregateRecorder.faults c.args.apps.now;
+  same = all-none g.R.AggregateRecorder.faults c.args.apps.now;
 }
 
 pub drain_leader-requires : goal.drain_leader-requires
@@ -25,7 +25,7 @@ loop-leader-preserved g c = record {
     λ base options s u held.
         let x = drain_from (terms (rules_of c.args.sys.now) options) s _ c.args.prompted.now c.args.prompted.now u c.loop-leader.leader-index c.leader-item.result (omega (arith, c.loop-leader-test.true, c.loop-leader.auto.leader-index-end)) c.leader-item.is
         (z.2 base options s u held) in
-        drain_then (terms (rules_of c.args.sys.now) options) s _ c.args.prompted.now c.leader-item.result _ u x _ (HoldHistories g.R.AggregateRecorder.history base c.drain_leader.new.apps) tt (y.2 base options x.state _ u x.held),
+        drain_then (terms (rules_of c.args.sys.now) options) s _ c.args.prompted.now c.leader-item.result _ u x _ (HoldContents g.R.AggregateRecorder.history g.R.AggregateRecorder.snapshots base c.drain_leader.new.apps) tt (y.2 base options x.state _ u x.held),
   );
   same = all-then c.loop-leader.invariant.same c.drain_leader.ensures.same;
 }
@@ -39,7 +39,7 @@ returns-in-Err-clause-drained g c = λ after may.
           let x = drain_from (terms (rules_of c.args.sys.now) options) s _ c.args.prompted.now c.args.prompted.now u c.loop-leader.leader-index c.leader-item.result (omega (arith, c.loop-leader-test.true, c.loop-leader.auto.leader-index-end)) c.leader-item.is
           (z.2 base options s u held) in
           drain_faulted (terms (rules_of c.args.sys.now) options) s _ c.args.prompted.now c.leader-item.result _ u x
-          (Holds g.R.AggregateRecorder.history g.R.AggregateRecorder.capacity base options c.drain_leader.new.apps (Some after)) _ c.in-Err.fault (y.2 base options x.state _ u x.held),
+          (Holds g.R.AggregateRecorder.history g.R.AggregateRecorder.snapshots g.R.AggregateRecorder.capacity base options c.drain_leader.new.apps (Some after)) _ c.in-Err.fault (y.2 base options x.state _ u x.held),
     )
 
 pub returns-in-Err-clause-same : goal.returns-in-Err-clause-same

@@ -1,6 +1,6 @@
 use Rattle.std.proofs.Common.{sym, subst, ◌∷◌}
 use Rattle.es_process.specs.Drains.{IsPairOf}
-use Rattle.es_process.specs.Standing.{HoldHistories}
+use Rattle.es_process.specs.Standing.{HoldContents}
 use Rattle.es_process.specs.SystemRules.{rules_of}
 use Rattle.es_process.specs.Terms.{terms}
 use Rattle.es_process.proofs.HoldsLemmas.{all-none, all-then, rose-then}
@@ -11,7 +11,7 @@ use Rattle.es_process.proofs.draining.follow.Goals as goal
 pub loop-more-init : goal.loop-more-init
 loop-more-init g c = record {
   followed = λ after may. (after, may, λ base options s prompted rest u held. stays (terms (rules_of c.args.sys.now) options) s prompted ((c.args.pair.now.leader_name, c.args.pair.now.follower_name) ∷ rest) _ u held);
-  same = all-none g.R.AggregateRecorder.snapshots g.R.AggregateRecorder.faults c.args.apps.now;
+  same = all-none g.R.AggregateRecorder.faults c.args.apps.now;
 }
 
 pub follow_one-requires : goal.follow_one-requires
@@ -24,7 +24,7 @@ loop-more-preserved g c = record {
     z.1,
     λ base options s prompted rest u held.
         let x = rw c.loop-more-test.true at (z.2 base options s prompted rest u held) in
-        follow_more (terms (rules_of c.args.sys.now) options) s c.args.pair.now _ _ (HoldHistories g.R.AggregateRecorder.history base c.follow_one.new.apps) prompted rest u c.in-Ok.found x (y.2 base options x.state prompted rest u x.held),
+        follow_more (terms (rules_of c.args.sys.now) options) s c.args.pair.now _ _ (HoldContents g.R.AggregateRecorder.history g.R.AggregateRecorder.snapshots base c.follow_one.new.apps) prompted rest u c.in-Ok.found x (y.2 base options x.state prompted rest u x.held),
   );
   same = all-then c.loop-more.invariant.same c.follow_one.ensures.same;
 }

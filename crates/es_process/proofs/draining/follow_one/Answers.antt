@@ -1,7 +1,7 @@
 use Rattle.std.proofs.Common.{◌∷◌}
 use Rattle.es_process.specs.Terms.{terms}
 use Rattle.es_process.specs.SystemRules.{rules_of}
-use Rattle.es_process.proofs.HoldsLemmas.{held-histories, all-then, rose-then}
+use Rattle.es_process.proofs.HoldsLemmas.{held-contents, all-then, rose-then}
 use Rattle.es_process.proofs.PairLemmas.{none_left, reading_failed}
 use Rattle.es_process.proofs.draining.follow_one.Goals as goal
 
@@ -21,7 +21,7 @@ returns-in-Err-clause-followed g c = λ after may. (
   λ base options s prompted rest u held.
       let still = c.next_of.ensures.holds base options _ s held in
       reading_failed (terms (rules_of c.args.sys.now) options) s prompted ((c.args.pair.now.leader_name, c.args.pair.now.follower_name) ∷ rest) c.in-Err.fault _ u (c.in-Err.ensures {u = tt}).faults
-      (held-histories _ _ base options _ _ s still),
+      (held-contents _ _ _ base options _ _ s still),
 )
 
 pub returns-in-Ok-Some-clause-followed : goal.returns-in-Ok-Some-clause-followed

@@ -12,7 +12,7 @@ bounds-apps-pair g c = place-within c.args.apps.now c.args.pair.now.follower _ c
 pub returns-in-Err-clause-holds : goal.returns-in-Err-clause-holds
 returns-in-Err-clause-holds g c = λ base options readings s held.
     let at = place-read c.args.apps.now c.args.pair.now.follower c.args.pair.now.follower_name c.index-apps-pair.result c.requires.pair.placed.follower in
-    holds-same c.args.apps.now c.requires.pair.apps.distinct c.args.pair.now.follower _ c.tracked.new.self at _ _ c.tracked.ensures.same base options readings s held
+    holds-same c.args.apps.now c.requires.pair.apps.distinct c.args.pair.now.follower _ c.tracked.new.self at _ _ _ c.tracked.ensures.same base options readings s held
 
 pub returns-in-Err-clause-same_turns : goal.returns-in-Err-clause-same_turns
 returns-in-Err-clause-same_turns g c =

@@ -1,12 +1,5 @@
-use Rattle.std.proofs.Common.{rules, Some, ◌<◌, Ok, Err, length, sym, subst}
-use Rattle.es_process.specs.declared.application.Processed.TheVariants.{Recorded, Skipped, Gap}
-use Rattle.es_process.specs.Decision.{logs_of}
-use Rattle.es_process.specs.Leaves.{IsRecorded}
-use Rattle.es_process.specs.SystemRules.{rules_of}
-use Rattle.es_process.specs.Terms.{terms}
-use Rattle.es_process.proofs.HoldsLemmas.{held-histories, all-set, rose-set}
-use Rattle.es_process.proofs.PairLemmas.{one_recorded, one_faulted, not_skipped, not_gap}
-use Rattle.es_process.proofs.PlaceLemmas.{place-within, at_follower, follower-declared, leader-declared, entry-there, follower-told, processed-told, follower-recorded, follower-still, follower-more, left-fewer}
+use Rattle.std.proofs.Common.{rules, ◌<◌, length}
+use Rattle.es_process.proofs.PlaceLemmas.{place-within, leader-declared, no-turn, not-converted}
 use Rattle.es_process.proofs.draining.process_next.Goals as goal
 
 pub offset_bounds-apps-pair : goal.offset_bounds-apps-pair
@@ -15,83 +8,24 @@ offset_bounds-apps-pair g c = let within : c.args.pair.now.follower < length c.a
 pub bounds-apps-pair : goal.bounds-apps-pair
 bounds-apps-pair g c = place-within c.args.apps.now c.args.pair.now.follower _ c.requires.pair.placed.follower
 
-pub process-requires-clause-app : goal.process-requires-clause-app
-process-requires-clause-app g c = follower-declared c.args.sys.now c.args.apps.now c.args.pair.now c.requires.pair c.index-apps-pair.result
-
-pub process-requires-clause-leader : goal.process-requires-clause-leader
-process-requires-clause-leader g c = leader-declared c.args.sys.now c.args.apps.now c.args.pair.now c.requires.pair c.index-apps-pair.result
-
-pub returns-in-Ok-Recorded-clause-followed : goal.returns-in-Ok-Recorded-clause-followed
-returns-in-Ok-Recorded-clause-followed g c = λ after may.
-    let x = (c.in-Ok-Recorded.ensures {u = tt}).processed after may in (
-      x.0,
-      x.1,
-      λ base options s prompted rest u held next.
-          let so = processed-told c.args.sys.now c.args.apps.now c.args.pair.now c.requires.pair c.index-apps-pair.result g.R.AggregateRecorder.history g.R.AggregateRecorder.capacity base options _ s held c.args.notification.now next (Ok (Recorded c.in-Ok-Recorded.field-0-0 c.in-Ok-Recorded.field-0-1)) _ _ _
-          (rw c.in-Ok-Recorded.field-0-is at (x.2 (logs_of s.histories) (s.histories c.args.pair.now.follower_name) s.readings (entry-there c.args.sys.now c.args.apps.now c.args.pair.now c.requires.pair c.index-apps-pair.result g.R.AggregateRecorder.history g.R.AggregateRecorder.capacity base options _ s held c.args.notification.now next)
-          (follower-told c.args.sys.now c.args.apps.now c.args.pair.now c.requires.pair c.index-apps-pair.result g.R.AggregateRecorder.history g.R.AggregateRecorder.capacity base options _ s held c.args.notification.now next) held.clock)) in
-          one_recorded (terms (rules_of c.args.sys.now) options) s c.args.pair.now c.requires.pair.pairs c.requires.pair.placed.apart prompted rest _ u _ _ _ _ _ _ next.0 so
-          (λ r added counted read. follower-recorded c.args.apps.now c.requires.pair.apps.distinct c.args.pair.now _ c.process.new.self c.requires.pair.placed.follower (at_follower c.args.sys.now c.args.apps.now c.args.pair.now c.requires.pair c.index-apps-pair.result) c.process.ensures.same.name g.R.AggregateRecorder.history base g.R.AggregateRecorder.capacity options _ _ s r held c.process.ensures.same.room c.process.ensures.same.turns added counted read),
-    )
-
-pub returns-in-Ok-Recorded-clause-counted : goal.returns-in-Ok-Recorded-clause-counted
-returns-in-Ok-Recorded-clause-counted g c = λ is.
-    let recorded = subst (λ x. IsRecorded (Ok x)) (sym c.in-Ok-Recorded.field-0-is) tt in
-    left-fewer c.args.apps.now c.args.pair.now.follower _ c.process.new.self (at_follower c.args.sys.now c.args.apps.now c.args.pair.now c.requires.pair c.index-apps-pair.result) c.process.ensures.same.turns ((c.in-Ok-Recorded.ensures {u = tt}).counted recorded) ((c.in-Ok-Recorded.ensures {u = tt}).free recorded)
-
-pub returns-in-Ok-Skipped-clause-followed : goal.returns-in-Ok-Skipped-clause-followed
-returns-in-Ok-Skipped-clause-followed g c = λ after may.
-    let x = (c.in-Ok-Skipped.ensures {u = tt}).processed after may in (
-      x.0,
-      x.1,
-      λ base options s prompted rest u held next.
-          let so = processed-told c.args.sys.now c.args.apps.now c.args.pair.now c.requires.pair c.index-apps-pair.result g.R.AggregateRecorder.history g.R.AggregateRecorder.capacity base options _ s held c.args.notification.now next (Ok (Skipped c.in-Ok-Skipped.field-0-0)) _ _ _
-          (rw c.in-Ok-Skipped.field-0-is at (x.2 (logs_of s.histories) (s.histories c.args.pair.now.follower_name) s.readings (entry-there c.args.sys.now c.args.apps.now c.args.pair.now c.requires.pair c.index-apps-pair.result g.R.AggregateRecorder.history g.R.AggregateRecorder.capacity base options _ s held c.args.notification.now next)
-          (follower-told c.args.sys.now c.args.apps.now c.args.pair.now c.requires.pair c.index-apps-pair.result g.R.AggregateRecorder.history g.R.AggregateRecorder.capacity base options _ s held c.args.notification.now next) held.clock)) in
-          absurd (not_skipped (terms (rules_of c.args.sys.now) options) s c.args.pair.now _ _ _ _ so),
-    )
-
-pub returns-in-Ok-Gap-clause-followed : goal.returns-in-Ok-Gap-clause-followed
-returns-in-Ok-Gap-clause-followed g c = λ after may.
-    let x = (c.in-Ok-Gap.ensures {u = tt}).processed after may in (
-      x.0,
-      x.1,
-      λ base options s prompted rest u held next.
-          let so = processed-told c.args.sys.now c.args.apps.now c.args.pair.now c.requires.pair c.index-apps-pair.result g.R.AggregateRecorder.history g.R.AggregateRecorder.capacity base options _ s held c.args.notification.now next (Ok (Gap c.in-Ok-Gap.field-0-0)) _ _ _
-          (rw c.in-Ok-Gap.field-0-is at (x.2 (logs_of s.histories) (s.histories c.args.pair.now.follower_name) s.readings (entry-there c.args.sys.now c.args.apps.now c.args.pair.now c.requires.pair c.index-apps-pair.result g.R.AggregateRecorder.history g.R.AggregateRecorder.capacity base options _ s held c.args.notification.now next)
-          (follower-told c.args.sys.now c.args.apps.now c.args.pair.now c.requires.pair c.index-apps-pair.result g.R.AggregateRecorder.history g.R.AggregateRecorder.capacity base options _ s held c.args.notification.now next) held.clock)) in
-          absurd (not_gap (terms (rules_of c.args.sys.now) options) s c.args.pair.now _ _ _ _ so),
-    )
-
 pub returns-in-Err-clause-followed : goal.returns-in-Err-clause-followed
-returns-in-Err-clause-followed g c = λ after may.
-    let x = (c.in-Err.ensures {u = tt}).processed after may in (
-      x.0,
-      x.1,
-      λ base options s prompted rest u held next.
-          let histories = held-histories g.R.AggregateRecorder.history g.R.AggregateRecorder.capacity base options c.args.apps.now _ s held in
-          one_faulted (terms (rules_of c.args.sys.now) options) s c.args.pair.now c.requires.pair.pairs c.requires.pair.placed.apart prompted rest u _ _ _ next.0 (λ same. follower-still c.args.apps.now c.requires.pair.apps.distinct c.args.pair.now _ c.process.new.self c.requires.pair.placed.follower (at_follower c.args.sys.now c.args.apps.now c.args.pair.now c.requires.pair c.index-apps-pair.result) c.process.ensures.same.name g.R.AggregateRecorder.history base s.histories histories same) (λ r one. follower-more c.args.apps.now c.requires.pair.apps.distinct c.args.pair.now _ c.process.new.self c.requires.pair.placed.follower (at_follower c.args.sys.now c.args.apps.now c.args.pair.now c.requires.pair c.index-apps-pair.result) c.process.ensures.same.name g.R.AggregateRecorder.history base s r histories one) c.in-Err.fault c.process.new.self.used (Some after)
-          (processed-told c.args.sys.now c.args.apps.now c.args.pair.now c.requires.pair c.index-apps-pair.result g.R.AggregateRecorder.history g.R.AggregateRecorder.capacity base options _ s held c.args.notification.now next (Err c.in-Err.fault) _ c.process.new.self.used (Some after)
-          (x.2 (logs_of s.histories) (s.histories c.args.pair.now.follower_name) s.readings (entry-there c.args.sys.now c.args.apps.now c.args.pair.now c.requires.pair c.index-apps-pair.result g.R.AggregateRecorder.history g.R.AggregateRecorder.capacity base options _ s held c.args.notification.now next)
-          (follower-told c.args.sys.now c.args.apps.now c.args.pair.now c.requires.pair c.index-apps-pair.result g.R.AggregateRecorder.history g.R.AggregateRecorder.capacity base options _ s held c.args.notification.now next) held.clock)),
-    )
+returns-in-Err-clause-followed g c = λ after may. (
+  after,
+  may,
+  λ base options s prompted rest u held next.
+      no-turn c.args.sys.now c.args.apps.now c.args.pair.now c.requires.pair c.index-apps-pair.result g.R.AggregateRecorder.history g.R.AggregateRecorder.snapshots g.R.AggregateRecorder.capacity base options _ s held c.args.notification.now next prompted rest u c.in-Err.fault
+      (c.in-Err.ensures {u = tt}).used,
+)
 
-pub returns-in-Ok-Recorded-clause-same : goal.returns-in-Ok-Recorded-clause-same
-returns-in-Ok-Recorded-clause-same g c =
-    all-set c.args.apps.now c.requires.pair.apps.distinct c.args.pair.now.follower _ c.process.new.self (at_follower c.args.sys.now c.args.apps.now c.args.pair.now c.requires.pair c.index-apps-pair.result) c.process.ensures.same
+pub returns-in-Err-convert-clause-followed : goal.returns-in-Err-convert-clause-followed
+returns-in-Err-convert-clause-followed g c = λ after may. (
+  after,
+  may,
+  λ base options s prompted rest u held next.
+      not-converted c.args.sys.now c.args.apps.now c.args.pair.now c.requires.pair c.index-apps-pair.result g.R.AggregateRecorder.history g.R.AggregateRecorder.snapshots g.R.AggregateRecorder.capacity base options _ s held c.args.notification.now next prompted rest u
+      (c.in-Ok.ensures {u = tt}).left c.in-Err-convert.fault (c.in-Err-convert.ensures {u = tt}).converts,
+)
 
-pub returns-in-Ok-Skipped-clause-same : goal.returns-in-Ok-Skipped-clause-same
-returns-in-Ok-Skipped-clause-same g c =
-    all-set c.args.apps.now c.requires.pair.apps.distinct c.args.pair.now.follower _ c.process.new.self (at_follower c.args.sys.now c.args.apps.now c.args.pair.now c.requires.pair c.index-apps-pair.result) c.process.ensures.same
-
-pub returns-in-Ok-Gap-clause-same : goal.returns-in-Ok-Gap-clause-same
-returns-in-Ok-Gap-clause-same g c =
-    all-set c.args.apps.now c.requires.pair.apps.distinct c.args.pair.now.follower _ c.process.new.self (at_follower c.args.sys.now c.args.apps.now c.args.pair.now c.requires.pair c.index-apps-pair.result) c.process.ensures.same
-
-pub returns-in-Err-clause-same : goal.returns-in-Err-clause-same
-returns-in-Err-clause-same g c =
-    all-set c.args.apps.now c.requires.pair.apps.distinct c.args.pair.now.follower _ c.process.new.self (at_follower c.args.sys.now c.args.apps.now c.args.pair.now c.requires.pair c.index-apps-pair.result) c.process.ensures.same
-
-pub returns-in-Err-clause-failed : goal.returns-in-Err-clause-failed
-returns-in-Err-clause-failed g c = λ is.
-    rose-set g.R.AggregateRecorder.faults c.args.apps.now c.args.pair.now.follower _ c.process.new.self (at_follower c.args.sys.now c.args.apps.now c.args.pair.now c.requires.pair c.index-apps-pair.result) ((c.in-Err.ensures {u = tt}).failed (cc is))
+pub process_event-requires-clause-notice : goal.process_event-requires-clause-notice
+process_event-requires-clause-notice g c =
+    (c.in-Ok-convert.ensures {u = tt}).notice c.requires.small.id c.requires.small.version (leader-declared c.args.sys.now c.args.apps.now c.args.pair.now c.requires.pair c.index-apps-pair.result)

@@ -1,7 +1,7 @@
-use Rattle.std.proofs.Common.{◌≡◌, Some, slice_get, ◌<◌, ◌-◌, ◌∙◌, suc, length, get_or, slice_set, refl, sym, ap, subst, arith, Err}
+use Rattle.std.proofs.Common.{◌≡◌, Some, slice_get, ◌<◌, ◌-◌, ◌∙◌, suc, length, get_or, slice_set, sym, ap, subst, arith, Err}
 use Rattle.es_process.specs.declared.faults.RunFault.TheVariants as fault
 use Rattle.es_process.specs.Standing.{AreDistinct, names_in}
-use Rattle.es_process.proofs.HoldsLemmas.{histories-set, name-at, all-set, all-then, rose-set, rose-then}
+use Rattle.es_process.proofs.HoldsLemmas.{alike-same, contents-set, name-at, all-set, all-then, rose-set, rose-then}
 use Rattle.es_process.proofs.SetLemmas.{get-same}
 use Rattle.es_single.proofs.CommandLemmas.{get-below, get-there}
 use Rattle.es_single.proofs.CountLemmas.{counted-more}
@@ -15,24 +15,28 @@ loop-place-preserved g c =
     record {
       within = let there : (c.loop-place.place - 1) < length (slice_set c.loop-place.apps (c.loop-place.place - 1) c.count_one.new.app) = get-below _ (c.loop-place.place - 1) c.count_one.new.app (get-same c.loop-place.apps (c.loop-place.place - 1) c.count_one.new.app (get_or c.loop-place.apps (c.loop-place.place - 1) c.index-apps-place.result) at) in omega (arith, there);
       same = all-then c.loop-place.invariant.same (all-set c.loop-place.apps distinct (c.loop-place.place - 1) (get_or c.loop-place.apps (c.loop-place.place - 1) c.index-apps-place.result) c.count_one.new.app (get-there c.loop-place.apps (c.loop-place.place - 1) c.index-apps-place.result below) c.count_one.ensures.same.stays);
-      holds = λ base h held.
-          let now = c.loop-place.invariant.holds base h held in
-          histories-set c.loop-place.apps distinct (c.loop-place.place - 1) (get_or c.loop-place.apps (c.loop-place.place - 1) c.index-apps-place.result) c.count_one.new.app (get-there c.loop-place.apps (c.loop-place.place - 1) c.index-apps-place.result below) c.count_one.ensures.same.stays.name g.R.AggregateRecorder.history base h h now (c.count_one.ensures.same.told ∙ now.each (c.loop-place.place - 1) (get_or c.loop-place.apps (c.loop-place.place - 1) c.index-apps-place.result) (get-there c.loop-place.apps (c.loop-place.place - 1) c.index-apps-place.result below)) (λ n other. refl);
-      counted = λ base h held.
-          let now = c.loop-place.invariant.holds base h held in
+      holds = λ base k held.
+          let now = c.loop-place.invariant.holds base k held in
+          let one = now.each (c.loop-place.place - 1) (get_or c.loop-place.apps (c.loop-place.place - 1) c.index-apps-place.result) (get-there c.loop-place.apps (c.loop-place.place - 1) c.index-apps-place.result below) in
+          contents-set c.loop-place.apps distinct (c.loop-place.place - 1) (get_or c.loop-place.apps (c.loop-place.place - 1) c.index-apps-place.result) c.count_one.new.app (get-there c.loop-place.apps (c.loop-place.place - 1) c.index-apps-place.result below) c.count_one.ensures.same.stays.name g.R.AggregateRecorder.history g.R.AggregateRecorder.snapshots base k k now
+          (record { recordings = c.count_one.ensures.same.told ∙ one.told; snapshots = c.count_one.ensures.same.kept ∙ one.told_snapshots }) (alike-same (get_or c.loop-place.apps (c.loop-place.place - 1) c.index-apps-place.result).name k);
+      counted = λ base k held.
+          let now = c.loop-place.invariant.holds base k held in
           let next : c.loop-place.place ≡ suc (c.loop-place.place - 1) = omega (arith, c.loop-place-test.true) in
-          counted-more (λ n. length (h n)) (names_in c.args.apps.now) c.loop-place.place (c.loop-place.place - 1) (get_or c.loop-place.apps (c.loop-place.place - 1) c.index-apps-place.result).name c.loop-place.counts c.count_one.new.counts next
+          counted-more (λ n. length (k.histories n)) (names_in c.args.apps.now) c.loop-place.place (c.loop-place.place - 1) (get_or c.loop-place.apps (c.loop-place.place - 1) c.index-apps-place.result).name c.loop-place.counts c.count_one.new.counts next
           (subst (λ ns. slice_get ns (c.loop-place.place - 1) ≡ Some (get_or c.loop-place.apps (c.loop-place.place - 1) c.index-apps-place.result).name) c.loop-place.invariant.same.names (name-at c.loop-place.apps (c.loop-place.place - 1) (get_or c.loop-place.apps (c.loop-place.place - 1) c.index-apps-place.result) at))
-          (c.loop-place.invariant.counted base h held) ((c.in-Ok.ensures {u = tt}).counted (h (get_or c.loop-place.apps (c.loop-place.place - 1) c.index-apps-place.result).name) (now.each (c.loop-place.place - 1) (get_or c.loop-place.apps (c.loop-place.place - 1) c.index-apps-place.result) at));
+          (c.loop-place.invariant.counted base k held) ((c.in-Ok.ensures {u = tt}).counted (k.histories (get_or c.loop-place.apps (c.loop-place.place - 1) c.index-apps-place.result).name) (now.each (c.loop-place.place - 1) (get_or c.loop-place.apps (c.loop-place.place - 1) c.index-apps-place.result) at).told);
     }
 
 pub returns-in-Err-clause-holds : goal.returns-in-Err-clause-holds
 returns-in-Err-clause-holds g c =
     let below : c.loop-place.place - 1 < length c.loop-place.apps = omega (arith, c.loop-place.invariant.within, c.loop-place-test.true) in
     let distinct = subst AreDistinct (sym c.loop-place.invariant.same.names) c.requires.distinct in
-    λ base h held.
-    let now = c.loop-place.invariant.holds base h held in
-    histories-set c.loop-place.apps distinct (c.loop-place.place - 1) (get_or c.loop-place.apps (c.loop-place.place - 1) c.index-apps-place.result) c.count_one.new.app (get-there c.loop-place.apps (c.loop-place.place - 1) c.index-apps-place.result below) c.count_one.ensures.same.stays.name g.R.AggregateRecorder.history base h h now (c.count_one.ensures.same.told ∙ now.each (c.loop-place.place - 1) (get_or c.loop-place.apps (c.loop-place.place - 1) c.index-apps-place.result) (get-there c.loop-place.apps (c.loop-place.place - 1) c.index-apps-place.result below)) (λ n other. refl)
+    λ base k held.
+    let now = c.loop-place.invariant.holds base k held in
+    let one = now.each (c.loop-place.place - 1) (get_or c.loop-place.apps (c.loop-place.place - 1) c.index-apps-place.result) (get-there c.loop-place.apps (c.loop-place.place - 1) c.index-apps-place.result below) in
+    contents-set c.loop-place.apps distinct (c.loop-place.place - 1) (get_or c.loop-place.apps (c.loop-place.place - 1) c.index-apps-place.result) c.count_one.new.app (get-there c.loop-place.apps (c.loop-place.place - 1) c.index-apps-place.result below) c.count_one.ensures.same.stays.name g.R.AggregateRecorder.history g.R.AggregateRecorder.snapshots base k k now
+    (record { recordings = c.count_one.ensures.same.told ∙ one.told; snapshots = c.count_one.ensures.same.kept ∙ one.told_snapshots }) (alike-same (get_or c.loop-place.apps (c.loop-place.place - 1) c.index-apps-place.result).name k)
 
 pub returns-in-Err-clause-same : goal.returns-in-Err-clause-same
 returns-in-Err-clause-same g c =

@@ -1,9 +1,9 @@
 use Rattle.std.proofs.Common.{arith, ◌∙◌, ap, sym, subst, Err}
 use Rattle.es_process.specs.Drains.{IsOnlyPair}
-use Rattle.es_process.specs.Standing.{HoldHistories}
+use Rattle.es_process.specs.Standing.{HoldContents}
 use Rattle.es_process.specs.SystemRules.{rules_of}
 use Rattle.es_process.specs.Terms.{terms}
-use Rattle.es_process.proofs.HoldsLemmas.{held-histories, all-none, all-then, rose-then}
+use Rattle.es_process.proofs.HoldsLemmas.{held-contents, all-none, all-then, rose-then}
 use Rattle.es_io.specs.Remains.{lines_from}
 use Rattle.es_single.specs.inner.Taken.{Counted}
 use Rattle.es_single.proofs.LoopLemmas.{none_answered, one_answered, stopped}
@@ -18,7 +18,7 @@ loop-count-init g c = record {
   room = omega arith;
   lines = lines-none g.S.Source.left g.S.Source.faults c.args.lines.now c.requires.ends;
   out_later = omega arith;
-  same = all-none g.R.AggregateRecorder.snapshots g.R.AggregateRecorder.faults c.args.apps.now;
+  same = all-none g.R.AggregateRecorder.faults c.args.apps.now;
 }
 
 pub turn-requires-clause-pair : goal.turn-requires-clause-pair
@@ -36,7 +36,7 @@ loop-count-preserved g c = record {
         (
           λ base options s n u begun held.
               let so = p.4.0 base options s n u begun held in
-              one_answered (terms (rules_of c.args.sys.now) options) s _ (lines_from c.args.lines.now p.0) (lines_from c.loop-count.lines t.0) c.loop-count.count u _ so _ _ (HoldHistories g.R.AggregateRecorder.history base c.turn.new.apps) (lines_from c.turn.new.lines b) (t.4.0 base options so.state so.held),
+              one_answered (terms (rules_of c.args.sys.now) options) s _ (lines_from c.args.lines.now p.0) (lines_from c.loop-count.lines t.0) c.loop-count.count u _ so _ _ (HoldContents g.R.AggregateRecorder.history g.R.AggregateRecorder.snapshots base c.turn.new.apps) (lines_from c.turn.new.lines b) (t.4.0 base options so.state so.held),
           counted_more p.0 c.loop-count.count t.0 _ _ p.4.1 b t.4.1,
         ),
       );
@@ -59,7 +59,7 @@ returns-in-Err-clause-answered g c = λ b after left may.
         λ base options s n u begun held.
             let so = p.4.0 base options s n u begun held in
             stopped (terms (rules_of c.args.sys.now) options) s _ (lines_from c.args.lines.now p.0) (lines_from c.loop-count.lines t.0) c.loop-count.count u _ so _ (lines_from c.turn.new.lines b) c.in-Err.stop _ _
-            (λ m h. held-histories _ _ base options _ _ m h) (t.4.0 base options so.state so.held),
+            (λ m h. held-contents _ _ _ base options _ _ m h) (t.4.0 base options so.state so.held),
         λ is. counted_taken p.0 c.loop-count.count t.0 (subst (λ e. Counted p.0 c.loop-count.count t.0 e) (c.turn.ensures.not_ended (c.in-Err.is ∙ ap Err is)) p.4.1) b (t.4.2 (ap Err is)),
       ),
     )

@@ -1,7 +1,7 @@
 use Rattle.std.proofs.Common.{◌≡◌, ◌≤◌, ◌+◌, ℕ, List, Option, None}
-use Rattle.es_model.specs.History.{Histories}
 use Rattle.es_io.specs.LinesLeft.{room_of, has_ended, fault_of}
 use Rattle.es_process.specs.Answer.{Options}
+use Rattle.es_process.specs.Contents.{Contents}
 use Rattle.es_process.specs.Standing.{State, Holds, AllStay}
 use Rattle.es_process.specs.SystemRules.{rules_of}
 use Rattle.es_process.specs.Terms.{terms}
@@ -15,15 +15,15 @@ use Rattle.es_single.proofs.serve.answer_all.Given as goal
 abbrev pub invariant-loop-count : goal.invariant-loop-count
 invariant-loop-count g l = record {
   goes : LinesTraced g.S.Source.left l.initial.lines l.lines (g.C.Clock.readings l.initial.clock) (g.C.Clock.readings l.clock) (λ a b before after. (
-      (base : Histories) (options : Options) (s n : State) (u : Option (List ℕ)) → Begun (terms (rules_of l.sys) options) s n u (g.T.Sink.written l.initial.out)
-      → Holds g.R.AggregateRecorder.history g.R.AggregateRecorder.capacity base options l.initial.apps before n
-      → Answered (terms (rules_of l.sys) options) s (Holds g.R.AggregateRecorder.history g.R.AggregateRecorder.capacity base options l.apps after) (lines_from l.initial.lines a) (lines_from l.lines b) l.count u (g.T.Sink.written l.out))
+      (base : Contents) (options : Options) (s n : State) (u : Option (List ℕ)) → Begun (terms (rules_of l.sys) options) s n u (g.T.Sink.written l.initial.out)
+      → Holds g.R.AggregateRecorder.history g.R.AggregateRecorder.snapshots g.R.AggregateRecorder.capacity base options l.initial.apps before n
+      → Answered (terms (rules_of l.sys) options) s (Holds g.R.AggregateRecorder.history g.R.AggregateRecorder.snapshots g.R.AggregateRecorder.capacity base options l.apps after) (lines_from l.initial.lines a) (lines_from l.lines b) l.count u (g.T.Sink.written l.out))
       × Counted a l.count b (has_ended l.lines));
   clear : fault_of l.lines ≡ None;
   room : l.count + room_of l.lines ≤ room_of l.initial.lines;
   lines : LinesStay g.S.Source.left g.S.Source.faults l.initial.lines l.lines;
   out_later : g.T.Sink.faults l.initial.out ≤ g.T.Sink.faults l.out;
-  same : AllStay g.R.AggregateRecorder.snapshots g.R.AggregateRecorder.faults l.initial.apps l.apps;
+  same : AllStay g.R.AggregateRecorder.faults l.initial.apps l.apps;
 }
 
 abbrev pub decreases-loop-count : goal.decreases-loop-count

@@ -1,8 +1,11 @@
 use Rattle.std.proofs.Common.{rules, Some}
-use Rattle.es_process.specs.Standing.{Holds, HoldHistories}
-use Rattle.es_process.proofs.HoldsLemmas.{held-histories}
+use Rattle.es_process.specs.Standing.{Holds, HoldContents}
+use Rattle.es_process.proofs.HoldsLemmas.{held-contents}
 use Rattle.es_single.proofs.ServesLemmas.{line_refused, refusal_tells}
 use Rattle.es_single.proofs.serve.answer_line.Goals as goal
+
+pub answer_request-requires-clause-asked : goal.answer_request-requires-clause-asked
+answer_request-requires-clause-asked g c = let asked = (c.in-Ok.ensures {u = tt}).request in record { line = c.args.line.now; is = search (rules, asked) }
 
 pub returns-in-Ok-clause-answered : goal.returns-in-Ok-clause-answered
 returns-in-Ok-clause-answered g c = λ after may.
@@ -24,7 +27,7 @@ returns-in-Err-clause-answered g c = λ after may. (
   after,
   may,
   λ base options s held.
-      line_refused c.args.sys.now options s (Holds g.R.AggregateRecorder.history g.R.AggregateRecorder.capacity base options c.args.apps.now (Some after)) (HoldHistories g.R.AggregateRecorder.history base c.args.apps.now) c.args.line.now c.in-Err.fault _ _ c.refuse.result ((c.in-Err.ensures {u = tt}).request) c.refuse.ensures.starved c.refuse.ensures.said held (held-histories _ _ base options _ _ s held),
+      line_refused c.args.sys.now options s (Holds g.R.AggregateRecorder.history g.R.AggregateRecorder.snapshots g.R.AggregateRecorder.capacity base options c.args.apps.now (Some after)) (HoldContents g.R.AggregateRecorder.history g.R.AggregateRecorder.snapshots base c.args.apps.now) c.args.line.now c.in-Err.fault _ _ c.refuse.result ((c.in-Err.ensures {u = tt}).request) c.refuse.ensures.starved c.refuse.ensures.said held (held-contents _ _ _ base options _ _ s held),
 )
 
 pub returns-in-Err-clause-tells : goal.returns-in-Err-clause-tells

@@ -78,3 +78,11 @@ returns-in-NotFound-clause-drained g c = λ after may.
 pub returns-in-Section-clause-drained : goal.returns-in-Section-clause-drained
 returns-in-Section-clause-drained g c = λ after may.
     (after, may, λ base options s u held. not_drained (terms (rules_of c.args.sys.now) options) s _ c.args.prompted.now c.args.reply.now u (ap (λ r. prompted_by r c.args.prompted.now) c.in-Section.is) held)
+
+pub returns-in-Snapshot-clause-drained : goal.returns-in-Snapshot-clause-drained
+returns-in-Snapshot-clause-drained g c = λ after may.
+    (after, may, λ base options s u held. not_drained (terms (rules_of c.args.sys.now) options) s _ c.args.prompted.now c.args.reply.now u (ap (λ r. prompted_by r c.args.prompted.now) c.in-Snapshot.is) held)
+
+pub returns-in-Unchanged-clause-drained : goal.returns-in-Unchanged-clause-drained
+returns-in-Unchanged-clause-drained g c = λ after may.
+    (after, may, λ base options s u held. not_drained (terms (rules_of c.args.sys.now) options) s _ c.args.prompted.now c.args.reply.now u (ap (λ r. prompted_by r c.args.prompted.now) c.in-Unchanged.is) held)

@@ -1,8 +1,8 @@
 use Rattle.std.proofs.Common.{Some}
 use Rattle.es_process.specs.SystemRules.{rules_of}
 use Rattle.es_process.specs.Terms.{terms}
-use Rattle.es_process.specs.Standing.{Holds, HoldHistories}
-use Rattle.es_process.proofs.HoldsLemmas.{held-histories}
+use Rattle.es_process.specs.Standing.{Holds, HoldContents}
+use Rattle.es_process.proofs.HoldsLemmas.{held-contents}
 use Rattle.es_single.specs.inner.Serves.{prompted_by}
 use Rattle.es_single.proofs.ServesLemmas.{replied, unreplied}
 use Rattle.es_single.proofs.serve.reply_and_drain.Goals as goal
@@ -22,5 +22,5 @@ returns-in-Err-clause-replied g c = λ after may. (
   after,
   may,
   λ base options s held.
-      unreplied (terms (rules_of c.args.sys.now) options) s (Holds g.R.AggregateRecorder.history g.R.AggregateRecorder.capacity base options c.args.apps.now (Some after)) (HoldHistories g.R.AggregateRecorder.history base c.args.apps.now) (prompted_by c.args.reply.now c.args.prompted.now) c.args.reply.now _ _ c.in-Err.stop (c.in-Err.ensures {u = tt}).said (held-histories _ _ base options _ _ s held),
+      unreplied (terms (rules_of c.args.sys.now) options) s (Holds g.R.AggregateRecorder.history g.R.AggregateRecorder.snapshots g.R.AggregateRecorder.capacity base options c.args.apps.now (Some after)) (HoldContents g.R.AggregateRecorder.history g.R.AggregateRecorder.snapshots base c.args.apps.now) (prompted_by c.args.reply.now c.args.prompted.now) c.args.reply.now _ _ c.in-Err.stop (c.in-Err.ensures {u = tt}).said (held-contents _ _ _ base options _ _ s held),
 )

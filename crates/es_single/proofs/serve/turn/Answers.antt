@@ -7,8 +7,8 @@ use Rattle.es_io.specs.LinesLeft.{has_ended}
 use Rattle.es_io.specs.Remains.{lines_from}
 use Rattle.es_process.specs.SystemRules.{rules_of}
 use Rattle.es_process.specs.Terms.{terms}
-use Rattle.es_process.specs.Standing.{Holds, HoldHistories}
-use Rattle.es_process.proofs.HoldsLemmas.{held-histories}
+use Rattle.es_process.specs.Standing.{Holds, HoldContents}
+use Rattle.es_process.proofs.HoldsLemmas.{held-contents}
 use Rattle.es_single.specs.inner.Taken.{UsesSome}
 use Rattle.es_single.proofs.ServesLemmas.{said_only, too_long, tells_going, saying_answers}
 use Rattle.es_single.proofs.LoopLemmas.{turned}
@@ -48,7 +48,7 @@ returns-in-Ok-Long-clause-turned g c = λ b after left may.
       (
         λ base options s held.
             turned (terms (rules_of c.args.sys.now) options) s _ (lines_from c.args.lines.now z.before) (lines_from c.next.new.self b) long _ _ _ c.say.result (λ is. absurd (cc is)) z.first (tells_going (rules_of c.args.sys.now) long c.say.result refl (saying_answers c.say.result c.say.ensures.stops))
-            (said_only (terms (rules_of c.args.sys.now) options) s (Holds g.R.AggregateRecorder.history g.R.AggregateRecorder.capacity base options c.args.apps.now (Some after)) (HoldHistories g.R.AggregateRecorder.history base c.args.apps.now) long Long _ _ c.say.result refl (too_long (terms (rules_of c.args.sys.now) options) s) c.say.ensures.said held (held-histories _ _ base options _ _ s held)),
+            (said_only (terms (rules_of c.args.sys.now) options) s (Holds g.R.AggregateRecorder.history g.R.AggregateRecorder.snapshots g.R.AggregateRecorder.capacity base options c.args.apps.now (Some after)) (HoldContents g.R.AggregateRecorder.history g.R.AggregateRecorder.snapshots base c.args.apps.now) long Long _ _ c.say.result refl (too_long (terms (rules_of c.args.sys.now) options) s) c.say.ensures.said held (held-contents _ _ _ base options _ _ s held)),
         on_ok c.say.result used,
         λ is. not_said (subst (λ r. IfErr r IsSaying) is c.say.ensures.stops),
       ),

@@ -1,5 +1,5 @@
 use Rattle.std.proofs.Common.{◌≡◌, length, rules}
-use Rattle.es_top.proofs.OpeningLemmas.{closing_none, closing_more, closed_holds, closed_keeps, front_before, named_there}
+use Rattle.es_top.proofs.OpeningLemmas.{closing_none, closing_more, front_before, leave_all, named_there}
 use Rattle.es_top.proofs.opening.close_all.Goals as goal
 
 pub loop-app-init : goal.loop-app-init
@@ -17,14 +17,12 @@ loop-app-preserved g c = record {
 pub returns-clause-closed : goal.returns-clause-closed
 returns-clause-closed g c =
     let none : length c.loop-app.apps.items ≡ 0 = search rules in
-    closed_holds g.M.R.AggregateRecorder.history g.M.R.AggregateRecorder.snapshots g.M.R.AggregateRecorder.faults c.args.apps.items c.loop-app.apps.items (g.M.Stores.held c.args.stores.now) (g.M.Stores.held c.loop-app.stores) (g.M.Stores.snapshots c.args.stores.now) (g.M.Stores.snapshots c.loop-app.stores)
-    (g.M.Stores.out c.args.stores.now) (g.M.Stores.out c.loop-app.stores) (g.M.Stores.faults c.args.stores.now) (g.M.Stores.faults c.loop-app.stores) c.loop-app.invariant.closing none
+    leave_all g.M.R.AggregateRecorder.history c.args.apps.items c.loop-app.apps.items (g.M.Stores.out c.args.stores.now) (g.M.Stores.held c.args.stores.now) (g.M.Stores.held c.loop-app.stores) none c.loop-app.invariant.closing.holds
 
 pub returns-clause-closed_snapshots : goal.returns-clause-closed_snapshots
 returns-clause-closed_snapshots g c =
     let none : length c.loop-app.apps.items ≡ 0 = search rules in
-    closed_keeps g.M.R.AggregateRecorder.history g.M.R.AggregateRecorder.snapshots g.M.R.AggregateRecorder.faults c.args.apps.items c.loop-app.apps.items (g.M.Stores.held c.args.stores.now) (g.M.Stores.held c.loop-app.stores) (g.M.Stores.snapshots c.args.stores.now) (g.M.Stores.snapshots c.loop-app.stores)
-    (g.M.Stores.out c.args.stores.now) (g.M.Stores.out c.loop-app.stores) (g.M.Stores.faults c.args.stores.now) (g.M.Stores.faults c.loop-app.stores) c.loop-app.invariant.closing none
+    leave_all g.M.R.AggregateRecorder.snapshots c.args.apps.items c.loop-app.apps.items (g.M.Stores.out c.args.stores.now) (g.M.Stores.snapshots c.args.stores.now) (g.M.Stores.snapshots c.loop-app.stores) none c.loop-app.invariant.closing.keeps
 
 pub close_application-requires : goal.close_application-requires
 close_application-requires g c =

@@ -6,18 +6,21 @@ use Rattle.es_top.proofs.OpeningLemmas.{distinct_front, opened_fresh, opened_hol
 use Rattle.es_top.proofs.opening.open_all.Goals as goal
 
 pub returns-in-Ok-open_each-clause-opened : goal.returns-in-Ok-open_each-clause-opened
-returns-in-Ok-open_each-clause-opened g c = opened_holds g.M.R.AggregateRecorder.capacity g.M.R.AggregateRecorder.faults (g.M.Stores.out c.args.stores.now) (g.M.Stores.out c.open_each.new.stores) c.open_each.new.opened.items c.open_each.ensures.opened g.M.R.AggregateRecorder.history (g.M.Stores.held c.args.stores.now) (g.M.Stores.held c.open_each.new.stores) c.open_each.ensures.histories
+returns-in-Ok-open_each-clause-opened g c = opened_holds g.M.R.AggregateRecorder.capacity g.M.R.AggregateRecorder.faults (g.M.Stores.out c.args.stores.now) (g.M.Stores.out c.open_each.new.stores) c.open_each.new.opened.items c.open_each.ensures.opened g.M.R.AggregateRecorder.history g.M.R.AggregateRecorder.snapshots
+    (g.M.Stores.held c.args.stores.now) (g.M.Stores.held c.open_each.new.stores) (g.M.Stores.snapshots c.args.stores.now) (g.M.Stores.snapshots c.open_each.new.stores) c.open_each.ensures.histories c.open_each.ensures.snapshots
 
-pub returns-in-Ok-open_each-clause-opened_snapshots : goal.returns-in-Ok-open_each-clause-opened_snapshots
-returns-in-Ok-open_each-clause-opened_snapshots g c = c.open_each.ensures.snapshots.each
+pub returns-in-Ok-open_each-clause-histories : goal.returns-in-Ok-open_each-clause-histories
+returns-in-Ok-open_each-clause-histories g c = c.open_each.ensures.histories.each
+
+pub returns-in-Ok-open_each-clause-snapshots : goal.returns-in-Ok-open_each-clause-snapshots
+returns-in-Ok-open_each-clause-snapshots g c = c.open_each.ensures.snapshots.each
 
 pub returns-in-Ok-open_each-clause-fresh : goal.returns-in-Ok-open_each-clause-fresh
 returns-in-Ok-open_each-clause-fresh g c = opened_fresh g.M.R.AggregateRecorder.capacity g.M.R.AggregateRecorder.faults (g.M.Stores.out c.args.stores.now) (g.M.Stores.out c.open_each.new.stores) c.open_each.new.opened.items c.open_each.ensures.opened
 
 pub returns-in-Err-clause-refused : goal.returns-in-Err-clause-refused
 returns-in-Err-clause-refused g c =
-    opened_left g.M.R.AggregateRecorder.capacity g.M.R.AggregateRecorder.faults (g.M.Stores.out c.args.stores.now) (g.M.Stores.out c.open_each.new.stores) c.open_each.new.opened.items c.open_each.ensures.opened g.M.R.AggregateRecorder.history (g.M.Stores.held c.args.stores.now) (g.M.Stores.held c.open_each.new.stores) c.open_each.ensures.histories (g.M.Stores.held c.close_all.new.stores)
-    (λ base h distinct outs elsewhere tells others. c.close_all.ensures.closed base h distinct outs elsewhere (record { each = tells; elsewhere = others }))
+    opened_left g.M.R.AggregateRecorder.capacity g.M.R.AggregateRecorder.faults (g.M.Stores.out c.args.stores.now) (g.M.Stores.out c.open_each.new.stores) c.open_each.new.opened.items c.open_each.ensures.opened g.M.R.AggregateRecorder.history (g.M.Stores.held c.args.stores.now) (g.M.Stores.held c.open_each.new.stores) c.open_each.ensures.histories (g.M.Stores.held c.close_all.new.stores) c.close_all.ensures.closed
     (distinct_front (names_in c.open_each.new.opened.items) (map (λ (a : App). a.name) c.as_slice.result.now) c.open_each.ensures.front (subst (λ (apps : List App). AreDistinct (map (λ (a : App). a.name) apps)) (sym c.as_slice.ensures) c.requires))
 
 pub returns-in-Err-clause-refused_snapshots : goal.returns-in-Err-clause-refused_snapshots

@@ -1,9 +1,9 @@
 use Rattle.std.proofs.Common.{rules, inr, inl, ◌≡◌, ◌⊎◌, ◌∙◌, pos, ℕ, List, [], Some, Ok, Option, IfSome, refl, sym, subst, ap, Err}
 use Rattle.es_model.specs.Causes.{Rose}
 use Rattle.es_model.specs.declared.declaration.System.{System}
-use Rattle.es_model.specs.History.{Histories}
 use Rattle.es_model.specs.Values.{Name}
 use Rattle.es_io.specs.Readings.{Readings}
+use Rattle.es_process.specs.Contents.{Contents}
 use Rattle.es_process.specs.SystemRules.{rules_of}
 use Rattle.es_process.proofs.DrainLemmas.{run-exists}
 use Rattle.es_single.specs.Limits.{limits}
@@ -15,7 +15,7 @@ use Rattle.es_single.specs.Ends.{Sort, itself, stopped, unbuilt}
 use Rattle.es_top.specs.Ends.{end_of_load, ended, sorted, Writes}
 use Rattle.es_top.specs.Loads.{TakesDocument}
 use Rattle.es_top.specs.Opened.{IsBuilt, IsNotBuilt}
-use Rattle.es_top.specs.Top.{IfTold, Ran}
+use Rattle.es_top.specs.Top.{IfTold, Ran, StoresTell}
 use Rattle.es_top.proofs.EndLemmas.{early_front, of_sort, ran_consistent, ran_weaker, usage_front, writes_so}
 use Rattle.es_top.proofs.DeclaresLemmas.{asked, fault_ran, fault_unasked, load_sort, loaded_same, refused_so}
 use Rattle.es_top.proofs.TopLemmas.{of_input, of_then}
@@ -39,25 +39,25 @@ not_loaded : {P : Type 0} (g : given.Over) (c : goal.After-end_unloaded g) (k : 
 not_loaded g c k one sort = load_sort c.in-Err.fault k (of_sort k (end_of_load c.in-Err.fault) c.end_unloaded.result (g.T.Sink.written c.args.out.now) (g.T.Sink.written c.end_unloaded.new.out) (λ same. absurd (not_stopped k same one)) (line_told g c) sort).1 one
 
 pub returns-in_default-clause-one_run : goal.returns-in_default-clause-one_run
-returns-in_default-clause-one_run g c = λ sys openings readings lines. run-exists (rules_of sys) limits openings readings lines
+returns-in_default-clause-one_run g c = λ sys opening readings lines. run-exists (rules_of sys) limits opening.histories opening readings lines
 
 pub returns-in-Ok-clause-one_run : goal.returns-in-Ok-clause-one_run
-returns-in-Ok-clause-one_run g c = λ sys openings readings lines. run-exists (rules_of sys) limits openings readings lines
+returns-in-Ok-clause-one_run g c = λ sys opening readings lines. run-exists (rules_of sys) limits opening.histories opening readings lines
 
 pub returns-in-Err-clause-one_run : goal.returns-in-Err-clause-one_run
-returns-in-Err-clause-one_run g c = λ sys openings readings lines. run-exists (rules_of sys) limits openings readings lines
+returns-in-Err-clause-one_run g c = λ sys opening readings lines. run-exists (rules_of sys) limits opening.histories opening readings lines
 
 -- all that is said of a run of the system that was loaded, which is the one that the words ask for
-loaded : (g : given.Over) (c : goal.After-drop-sys-in-Ok-2 g) (sys : System) → declares (g.D.Source.documents c.args.system.now) c.args.words.now ≡ Some (Ok sys) → (h : Histories) → g.M.Stores.held c.args.stores.now ≡ Some h
-    → OfInput (g.S.Source.left c.args.lines.now) (g.S.Source.left c.run_to_end.new.lines) (g.C.Clock.readings c.args.clock.now) (λ i rest r. Ran (Rose (g.S.Source.faults c.args.lines.now) (g.S.Source.faults c.run_to_end.new.lines)) (Rose (g.M.Stores.faults c.args.stores.now) (g.M.Stores.faults c.run_to_end.new.stores)) (Rose (g.D.Source.faults c.args.system.now) (g.D.Source.faults c.load.new.system)) sys i rest r h (g.M.Stores.held c.run_to_end.new.stores) (g.T.Sink.written c.args.out.now) (g.T.Sink.written c.run_to_end.new.out) c.run_to_end.result)
+loaded : (g : given.Over) (c : goal.After-drop-sys-in-Ok-2 g) (sys : System) → declares (g.D.Source.documents c.args.system.now) c.args.words.now ≡ Some (Ok sys) → (h : Contents) → StoresTell h (g.M.Stores.held c.args.stores.now) (g.M.Stores.snapshots c.args.stores.now)
+    → OfInput (g.S.Source.left c.args.lines.now) (g.S.Source.left c.run_to_end.new.lines) (g.C.Clock.readings c.args.clock.now) (λ i rest r. Ran (Rose (g.S.Source.faults c.args.lines.now) (g.S.Source.faults c.run_to_end.new.lines)) (Rose (g.M.Stores.faults c.args.stores.now) (g.M.Stores.faults c.run_to_end.new.stores)) (Rose (g.D.Source.faults c.args.system.now) (g.D.Source.faults c.load.new.system)) sys i rest r h (g.M.Stores.held c.run_to_end.new.stores) (g.M.Stores.snapshots c.run_to_end.new.stores) (g.T.Sink.written c.args.out.now) (g.T.Sink.written c.run_to_end.new.out) c.run_to_end.result)
 loaded g c sys is h held = of_then (c.run_to_end.ensures.ran h held) (λ i rest r ran.
-    ran_weaker (Rose (g.S.Source.faults c.args.lines.now) (g.S.Source.faults c.run_to_end.new.lines)) (Rose (g.M.Stores.faults c.args.stores.now) (g.M.Stores.faults c.run_to_end.new.stores)) (Rose (g.D.Source.faults c.args.system.now) (g.D.Source.faults c.load.new.system)) sys i rest r h (g.M.Stores.held c.run_to_end.new.stores) (g.T.Sink.written c.args.out.now) (g.T.Sink.written c.run_to_end.new.out) c.run_to_end.result (subst (λ x. Ran (Rose (g.S.Source.faults c.args.lines.now) (g.S.Source.faults c.run_to_end.new.lines)) (Rose (g.M.Stores.faults c.args.stores.now) (g.M.Stores.faults c.run_to_end.new.stores)) ⊥ x i rest r h (g.M.Stores.held c.run_to_end.new.stores) (g.T.Sink.written c.args.out.now) (g.T.Sink.written c.run_to_end.new.out) c.run_to_end.result) (same_system g c sys is) ran))
+    ran_weaker (Rose (g.S.Source.faults c.args.lines.now) (g.S.Source.faults c.run_to_end.new.lines)) (Rose (g.M.Stores.faults c.args.stores.now) (g.M.Stores.faults c.run_to_end.new.stores)) (Rose (g.D.Source.faults c.args.system.now) (g.D.Source.faults c.load.new.system)) sys i rest r h (g.M.Stores.held c.run_to_end.new.stores) (g.M.Stores.snapshots c.run_to_end.new.stores) (g.T.Sink.written c.args.out.now) (g.T.Sink.written c.run_to_end.new.out) c.run_to_end.result (subst (λ x. Ran (Rose (g.S.Source.faults c.args.lines.now) (g.S.Source.faults c.run_to_end.new.lines)) (Rose (g.M.Stores.faults c.args.stores.now) (g.M.Stores.faults c.run_to_end.new.stores)) ⊥ x i rest r h (g.M.Stores.held c.run_to_end.new.stores) (g.M.Stores.snapshots c.run_to_end.new.stores) (g.T.Sink.written c.args.out.now) (g.T.Sink.written c.run_to_end.new.out) c.run_to_end.result) (same_system g c sys is) ran))
 
 -- all that is said where it couldn't be loaded: no step was made
-unloaded : (g : given.Over) (c : goal.After-end_unloaded g) (sys : System) → declares (g.D.Source.documents c.args.system.now) c.args.words.now ≡ Some (Ok sys) → (h : Histories) → g.M.Stores.held c.args.stores.now ≡ Some h
-    → (i : List ℕ) (r : Readings) → Ran (Rose (g.S.Source.faults c.args.lines.now) (g.S.Source.faults c.args.lines.now)) (Rose (g.M.Stores.faults c.args.stores.now) (g.M.Stores.faults c.args.stores.now)) (Rose (g.D.Source.faults c.args.system.now) (g.D.Source.faults c.load.new.system)) sys i i r h (g.M.Stores.held c.args.stores.now) (g.T.Sink.written c.args.out.now) (g.T.Sink.written c.end_unloaded.new.out) c.end_unloaded.result
+unloaded : (g : given.Over) (c : goal.After-end_unloaded g) (sys : System) → declares (g.D.Source.documents c.args.system.now) c.args.words.now ≡ Some (Ok sys) → (h : Contents) → StoresTell h (g.M.Stores.held c.args.stores.now) (g.M.Stores.snapshots c.args.stores.now)
+    → (i : List ℕ) (r : Readings) → Ran (Rose (g.S.Source.faults c.args.lines.now) (g.S.Source.faults c.args.lines.now)) (Rose (g.M.Stores.faults c.args.stores.now) (g.M.Stores.faults c.args.stores.now)) (Rose (g.D.Source.faults c.args.system.now) (g.D.Source.faults c.load.new.system)) sys i i r h (g.M.Stores.held c.args.stores.now) (g.M.Stores.snapshots c.args.stores.now) (g.T.Sink.written c.args.out.now) (g.T.Sink.written c.end_unloaded.new.out) c.end_unloaded.result
 unloaded g c sys is h held i r =
-    fault_ran (g.D.Source.documents c.args.system.now) c.args.words.now c.in-Some.name.now (sym (c.in-Some.ensures {u = tt})) (Rose (g.S.Source.faults c.args.lines.now) (g.S.Source.faults c.args.lines.now)) (Rose (g.M.Stores.faults c.args.stores.now) (g.M.Stores.faults c.args.stores.now)) (Rose (g.D.Source.faults c.args.system.now) (g.D.Source.faults c.load.new.system)) c.in-Err.fault (λ same. (c.in-Err.ensures {u = tt}).failed (ap Err same)) (c.in-Err.ensures {u = tt}).loads sys is i i r h (g.M.Stores.held c.args.stores.now) (g.T.Sink.written c.args.out.now) (g.T.Sink.written c.end_unloaded.new.out) c.end_unloaded.result (line_told g c) held
+    fault_ran (g.D.Source.documents c.args.system.now) c.args.words.now c.in-Some.name.now (sym (c.in-Some.ensures {u = tt})) (Rose (g.S.Source.faults c.args.lines.now) (g.S.Source.faults c.args.lines.now)) (Rose (g.M.Stores.faults c.args.stores.now) (g.M.Stores.faults c.args.stores.now)) (Rose (g.D.Source.faults c.args.system.now) (g.D.Source.faults c.load.new.system)) c.in-Err.fault (λ same. (c.in-Err.ensures {u = tt}).failed (ap Err same)) (c.in-Err.ensures {u = tt}).loads sys is i i r h (g.M.Stores.held c.args.stores.now) (g.M.Stores.snapshots c.args.stores.now) (g.T.Sink.written c.args.out.now) (g.T.Sink.written c.end_unloaded.new.out) c.end_unloaded.result (line_told g c) held
 
 pub returns-in-Ok-clause-ran : goal.returns-in-Ok-clause-ran
 returns-in-Ok-clause-ran g c = λ sys h is held. loaded g c sys is h held
@@ -66,10 +66,10 @@ pub returns-in-Err-clause-ran : goal.returns-in-Err-clause-ran
 returns-in-Err-clause-ran g c = λ sys h is held. of_input _ _ _ (unloaded g c sys is h held)
 
 pub returns-in-Ok-clause-consistent : goal.returns-in-Ok-clause-consistent
-returns-in-Ok-clause-consistent g c = λ sys h is held. let x = loaded g c sys is h held in ran_consistent (Rose (g.S.Source.faults c.args.lines.now) (g.S.Source.faults c.run_to_end.new.lines)) (Rose (g.M.Stores.faults c.args.stores.now) (g.M.Stores.faults c.run_to_end.new.stores)) (Rose (g.D.Source.faults c.args.system.now) (g.D.Source.faults c.load.new.system)) sys x.input x.rest x.readings h (g.M.Stores.held c.run_to_end.new.stores) (g.T.Sink.written c.args.out.now) (g.T.Sink.written c.run_to_end.new.out) c.run_to_end.result x.holds
+returns-in-Ok-clause-consistent g c = λ sys h is held. let x = loaded g c sys is h held in ran_consistent (Rose (g.S.Source.faults c.args.lines.now) (g.S.Source.faults c.run_to_end.new.lines)) (Rose (g.M.Stores.faults c.args.stores.now) (g.M.Stores.faults c.run_to_end.new.stores)) (Rose (g.D.Source.faults c.args.system.now) (g.D.Source.faults c.load.new.system)) sys x.input x.rest x.readings h (g.M.Stores.held c.run_to_end.new.stores) (g.M.Stores.snapshots c.run_to_end.new.stores) (g.T.Sink.written c.args.out.now) (g.T.Sink.written c.run_to_end.new.out) c.run_to_end.result x.holds
 
 pub returns-in-Err-clause-consistent : goal.returns-in-Err-clause-consistent
-returns-in-Err-clause-consistent g c = λ sys h is held. ran_consistent (Rose (g.S.Source.faults c.args.lines.now) (g.S.Source.faults c.args.lines.now)) (Rose (g.M.Stores.faults c.args.stores.now) (g.M.Stores.faults c.args.stores.now)) (Rose (g.D.Source.faults c.args.system.now) (g.D.Source.faults c.load.new.system)) sys [] [] (record { next = []; after = pos 0 }) h (g.M.Stores.held c.args.stores.now) (g.T.Sink.written c.args.out.now) (g.T.Sink.written c.end_unloaded.new.out) c.end_unloaded.result (unloaded g c sys is h held [] (record { next = []; after = pos 0 }))
+returns-in-Err-clause-consistent g c = λ sys h is held. ran_consistent (Rose (g.S.Source.faults c.args.lines.now) (g.S.Source.faults c.args.lines.now)) (Rose (g.M.Stores.faults c.args.stores.now) (g.M.Stores.faults c.args.stores.now)) (Rose (g.D.Source.faults c.args.system.now) (g.D.Source.faults c.load.new.system)) sys [] [] (record { next = []; after = pos 0 }) h (g.M.Stores.held c.args.stores.now) (g.M.Stores.snapshots c.args.stores.now) (g.T.Sink.written c.args.out.now) (g.T.Sink.written c.end_unloaded.new.out) c.end_unloaded.result (unloaded g c sys is h held [] (record { next = []; after = pos 0 }))
 
 pub returns-in-Err-clause-early_line : goal.returns-in-Err-clause-early_line
 returns-in-Err-clause-early_line g c = λ e told early. (writes_so (end_of_load c.in-Err.fault) c.end_unloaded.result (g.T.Sink.written c.args.out.now) (g.T.Sink.written c.end_unloaded.new.out) (line_told g c) e told).1

@@ -10,8 +10,8 @@ returns-in-Ok-clause-taken g c = λ after may.
     let x = reading_taken _ _ c.now-at.result c.now-at.ensures.reading c.now-at.ensures.rest after may in (
       x.0,
       x.1,
-      λ logs h r there told reading.
-          takes_next _ _ _ _ h _ logs _ _ _ c.args.notification.now.event c.in-Ok.event r c.record.result _ _ _ (grind (arith, nat_tests)) (c.in-Ok.ensures {u = tt}).converts there
-          (rw (subst (λ o. Reads o c.now-at.result) reading x.2.0) at (c.record.ensures.records h told)) c.record.ensures.counted
+      λ logs h q r is told kept reading.
+          takes_next _ _ _ _ h q _ logs _ _ _ c.args.event.now r c.record.result _ _ _ _ (grind (arith, nat_tests)) is
+          (rw (subst (λ o. Reads o c.now-at.result) reading x.2.0) at (c.record.ensures.records h q told kept)) c.record.ensures.counted
           (subst (λ o. GoesOn o (Some after)) reading x.2.1),
     )

@@ -1,0 +1,8 @@
+use Rattle.std.proofs.Common.{refl}
+use Rattle.es_lines.specs.Texts.{reply_tree}
+use Rattle.es_lines.specs.declared.replies.Reply.TheVariants as reply
+use Rattle.es_lines.proofs.ObjectLemmas.{both, whole}
+use Rattle.es_lines.proofs.replies.snapshot_text.Goals as goal
+
+pub returns : goal.returns
+returns c = whole c.ended.result (reply_tree (reply.Snapshot c.args.version)) c.in_ok-out.ensures (both c.in_ok-put_text.ensures c.in_ok-put_number.ensures) refl c.ended.ensures
