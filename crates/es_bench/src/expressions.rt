@@ -3,22 +3,16 @@ ghost use Rattle.std.specs.Prelude.{◌≡◌, Ok};
 ghost use Rattle.es_expr.specs.Sound.{IsTest};
 
 use crate::rate;
-use es_expr::{EvalFault, ExprFault, check, fit, test};
-use es_model::{Atom, AtomKind, Boxed, Expr, Fields, Kind, Kinds, NoMemory, Text, Value};
+use es_decl::read_expr;
+use es_expr::{EvalFault, check, fit, test};
+use es_model::{Atom, AtomKind, Expr, Fields, Kind, Kinds, NoMemory, Text, Value};
 use std::alloc::Global;
 use std::rt::Clock;
 use std::time::Instant;
 
-fn name(alloc: Global, text: &str) -> Result<Boxed<Expr>, NoMemory> {
-    Boxed::new(alloc, Expr::Get(Text::from_str(alloc, text)?))
-}
-
 // The amount is above 0 and at most the balance.
-fn guard(alloc: Global) -> Result<Expr, NoMemory> {
-    let above = Expr::Lt(Boxed::new(alloc, Expr::Int(0))?, name(alloc, "arg.amount")?);
-    let covered = Expr::Le(name(alloc, "arg.amount")?, name(alloc, "self.balance")?);
-    Ok(Expr::And(Boxed::new(alloc, above)?, Boxed::new(alloc, covered)?))
-}
+const GUARD: &str =
+    "{\"and\":[{\"lt\":[{\"int\":0},{\"get\":\"arg.amount\"}]},{\"le\":[{\"get\":\"arg.amount\"},{\"get\":\"self.balance\"}]}]}";
 
 fn kinds(alloc: Global) -> Result<Kinds, NoMemory> {
     let mut kinds = Kinds::new(alloc);
@@ -61,8 +55,7 @@ fn tested(alloc: Global, guard: &Expr, amount: i64, count: u64) -> anyhow::Resul
                 Err(anyhow::anyhow!("values that do not fit"))
             }
         }
-        Ok(_) => Err(anyhow::anyhow!("no truth value")),
-        Err(fault) => Err(fault.into()),
+        _ => Err(anyhow::anyhow!("no truth value")),
     }
 }
 
@@ -88,6 +81,9 @@ pub(crate) fn measure(
     alloc: Global,
     count: u64,
 ) -> anyhow::Result<()> {
-    let guard = guard(alloc)?;
-    report(rt, alloc, &guard, count)
+    let tree = serde_json::Value::from_str(alloc, GUARD)?;
+    match read_expr(alloc, &tree) {
+        Ok(guard) => report(rt, alloc, &guard, count),
+        Err(_) => Err(anyhow::anyhow!("no guard")),
+    }
 }

@@ -86,21 +86,64 @@ fn decide_all(
     Ok(events)
 }
 
+// The same, over the account.
+fn decided_over(
+    alloc: Global,
+    sys: &System,
+    ledger: &Text,
+    leader: &Text,
+    event: &DomainEvent,
+    count: u64,
+) -> anyhow::Result<usize>
+    requires checked { IsCheckedSystem sys.now }
+    requires app { IsTrue (is_some (app_named sys.now.apps ledger.now)) }
+    requires notice { IsNotice sys.now (notice leader.now 1 event.now) }
+{
+    let account = account(alloc)?;
+    Ok(decide_all(alloc, sys, &account, ledger, leader, event, count)?)
+}
+
 // The same, where they may be decided.
+fn decided_on(
+    alloc: Global,
+    sys: &System,
+    ledger: &Text,
+    leader: &Text,
+    event: &DomainEvent,
+    count: u64,
+) -> anyhow::Result<usize>
+    requires { IsCheckedSystem sys.now }
+{
+    if !is_app(sys, ledger) {
+        return Err(anyhow::anyhow!("no system"));
+    }
+    if !is_notice(sys, leader, 1, event) {
+        return Err(anyhow::anyhow!("no notification"));
+    }
+    decided_over(alloc, sys, ledger, leader, event, count)
+}
+
+// The same, on the deposit.
+fn decided_between(
+    alloc: Global,
+    sys: &System,
+    ledger: &Text,
+    leader: &Text,
+    count: u64,
+) -> anyhow::Result<usize>
+    requires { IsCheckedSystem sys.now }
+{
+    let event = deposit(alloc)?;
+    decided_on(alloc, sys, ledger, leader, &event, count)
+}
+
+// The same, of the ledger that follows the bank.
 fn decided_events(alloc: Global, sys: &System, count: u64) -> anyhow::Result<usize>
     requires { IsCheckedSystem sys.now }
 {
-    let account = account(alloc)?;
-    let event = deposit(alloc)?;
     let leader = text(alloc, "bank")?;
     let ledger = text(alloc, "ledger")?;
-    if !is_app(sys, &ledger) {
-        return Err(anyhow::anyhow!("no system"));
-    }
-    if !is_notice(sys, &leader, 1, &event) {
-        return Err(anyhow::anyhow!("no notification"));
-    }
-    Ok(decide_all(alloc, sys, &account, &ledger, &leader, &event, count)?)
+    decided_between(alloc, sys, &ledger, &leader, count)
 }
 
 // The rate of so many decisions.

@@ -68,20 +68,30 @@ struct Timed {
 }
 
 // Fills a recorder up to a number, and times appends and selections there.
-fn time(rt: &impl Clock, alloc: Global, upto: u64) -> anyhow::Result<Timed> {
-    let mut recorder = MemoryRecorder::new(alloc, (1 << 62) - 1);
-    append(alloc, &mut recorder, 0, upto)?;
+fn filled(
+    rt: &impl Clock,
+    alloc: Global,
+    recorder: &mut MemoryRecorder,
+    upto: u64,
+) -> anyhow::Result<Timed> {
+    append(alloc, recorder, 0, upto)?;
     let before = Instant::now(rt)?;
-    append(alloc, &mut recorder, upto, upto.saturating_add(TIMED))?;
+    append(alloc, recorder, upto, upto.saturating_add(TIMED))?;
     let appends = rate(TIMED, before.elapsed(rt)?);
     let before = Instant::now(rt)?;
-    let found = select(&mut recorder, upto)?;
+    let found = select(recorder, upto)?;
     let selections = rate(2 * TIMED, before.elapsed(rt)?);
     Ok(Timed {
         appends,
         selections,
         found,
     })
+}
+
+// Does so with a new recorder.
+fn time(rt: &impl Clock, alloc: Global, upto: u64) -> anyhow::Result<Timed> {
+    let mut recorder = MemoryRecorder::new(alloc, (1 << 62) - 1);
+    filled(rt, alloc, &mut recorder, upto)
 }
 
 /// Fills a recorder up to a number, times appends and selections there, and tells them.

@@ -50,6 +50,41 @@ fn decode(alloc: Global, text: &[u8], times: u64) -> anyhow::Result<u64> {
     Ok(read)
 }
 
+// How many bytes are written, and how many records in a second.
+fn encoded(
+    rt: &impl Clock,
+    alloc: Global,
+    fields: &Fields,
+    times: u64,
+) -> anyhow::Result<(u64, u128)> {
+    let before = Instant::now(rt)?;
+    let bytes = encode(alloc, fields, times)?;
+    Ok((bytes, rate(times, before.elapsed(rt)?)))
+}
+
+// How many fields are read, and how many records in a second.
+fn decoded(rt: &impl Clock, alloc: Global, text: &[u8], times: u64) -> anyhow::Result<(u64, u128)> {
+    let before = Instant::now(rt)?;
+    let read = decode(alloc, text, times)?;
+    Ok((read, rate(times, before.elapsed(rt)?)))
+}
+
+// Times both, and tells them.
+fn report(
+    rt: &(impl Clock + Eprint + Print),
+    alloc: Global,
+    fields: &Fields,
+    text: &[u8],
+    times: u64,
+) -> anyhow::Result<()> {
+    let (bytes, written) = encoded(rt, alloc, fields, times)?;
+    let (read, taken) = decoded(rt, alloc, text, times)?;
+    println!(rt; "{}", str::from_utf8(text)?)?;
+    println!(rt; "{bytes} bytes, {read} fields")?;
+    eprintln!(rt; "{:>12} {written:>12} {taken:>12}", "records")?;
+    Ok(())
+}
+
 /// Encodes and decodes so often.
 pub(crate) fn measure(
     rt: &(impl Clock + Eprint + Print),
@@ -58,14 +93,5 @@ pub(crate) fn measure(
 ) -> anyhow::Result<()> {
     let fields = state(alloc)?;
     let text = encode_record(alloc, &fields)?;
-    let before = Instant::now(rt)?;
-    let bytes = encode(alloc, &fields, times)?;
-    let encoded = rate(times, before.elapsed(rt)?);
-    let before = Instant::now(rt)?;
-    let read = decode(alloc, text.as_slice(), times)?;
-    let decoded = rate(times, before.elapsed(rt)?);
-    println!(rt; "{}", str::from_utf8(text.as_slice())?)?;
-    println!(rt; "{bytes} bytes, {read} fields")?;
-    eprintln!(rt; "{:>12} {encoded:>12} {decoded:>12}", "records")?;
-    Ok(())
+    report(rt, alloc, &fields, text.as_slice(), times)
 }

@@ -97,19 +97,30 @@ fn transcodings(alloc: Global) -> anyhow::Result<Value> {
     told.end()
 }
 
+// The text of a decimal with such digits.
+fn of_digits(alloc: Global, case: &Value, digits: i64) -> anyhow::Result<Value> {
+    let scale = u8::try_from(given::number(case, "scale")?).ok();
+    decimal(alloc, digits, scale.context("no scale")?)
+}
+
+// What is read from the text of a case.
+fn of_text(alloc: Global, case: &Value, kind: &str) -> anyhow::Result<Value> {
+    let text = given::owned(alloc, case, "text")?;
+    read(alloc, kind, &text)
+}
+
 /// The answer of a case.
 pub(crate) fn answer(alloc: Global, case: &Value) -> anyhow::Result<Value> {
     if let Some(micros) = case.get("moment").and_then(Value::as_i64) {
         moment(alloc, micros)
     } else if let Some(digits) = case.get("digits").and_then(Value::as_i64) {
-        let scale = u8::try_from(given::number(case, "scale")?).ok();
-        decimal(alloc, digits, scale.context("no scale")?)
+        of_digits(alloc, case, digits)
     } else if case.get("id").is_some() {
         id(alloc, given::id(case, "id")?)
     } else if let Some(micros) = case.get("nearest").and_then(Value::as_i64) {
         Ok(Value::from(Moment::nearest(micros).micros()))
     } else if let Some(kind) = case.get("read").and_then(Value::as_str) {
-        read(alloc, kind, &given::owned(alloc, case, "text")?)
+        of_text(alloc, case, kind)
     } else {
         transcodings(alloc)
     }

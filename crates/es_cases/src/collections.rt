@@ -20,6 +20,16 @@ fn step(alloc: Global, counts: &mut Counts, step: &Value) -> anyhow::Result<Opti
     }
 }
 
+// Tells a copy of names with their numbers.
+fn put_copy(answers: &mut Items, counts: &Counts) -> anyhow::Result<()> {
+    let copy = counts.copy()?;
+    for (name, number) in copy.as_slice() {
+        answers.put(name.as_str());
+        answers.put(*number);
+    }
+    Ok(())
+}
+
 // The answers of steps, and the names with their numbers at the end, one after the other.
 fn names(alloc: Global, steps: &[Value]) -> anyhow::Result<Value> {
     let mut counts = Counts::new(alloc);
@@ -27,11 +37,7 @@ fn names(alloc: Global, steps: &[Value]) -> anyhow::Result<Value> {
     for given in steps {
         answers.put(step(alloc, &mut counts, given)?);
     }
-    let copy = counts.copy()?;
-    for (name, number) in copy.as_slice() {
-        answers.put(name.as_str());
-        answers.put(*number);
-    }
+    put_copy(&mut answers, &counts)?;
     answers.end()
 }
 
@@ -61,6 +67,20 @@ fn bytes(alloc: Global, first: u8, more: &Bytes) -> anyhow::Result<Value> {
     told::text(alloc, digits.as_str())
 }
 
+// The same of a byte and of bytes that are given.
+fn of_bytes(alloc: Global, first: u64, more: &Value) -> anyhow::Result<Value> {
+    let first = u8::try_from(first).ok().context("no byte")?;
+    let more = given::bytes(alloc, more)?;
+    bytes(alloc, first, &more)
+}
+
+// A text, copied.
+fn of_text(alloc: Global, case: &Value) -> anyhow::Result<Value> {
+    let text = given::owned(alloc, case, "text")?;
+    let copy = text.copy()?;
+    told::text(alloc, copy.as_str())
+}
+
 // Whether each of so many calls succeeds.
 fn faults(alloc: Global, case: &Value) -> anyhow::Result<Value> {
     let count = given::number(case, "calls")?;
@@ -79,11 +99,9 @@ pub(crate) fn answer(alloc: Global, case: &Value) -> anyhow::Result<Value> {
     } else if case.get("list").is_some() {
         list(alloc, given::items(case, "list")?)
     } else if let Some(first) = case.get("byte").and_then(Value::as_u64) {
-        let more = given::bytes(alloc, given::member(case, "more")?)?;
-        bytes(alloc, u8::try_from(first).ok().context("no byte")?, &more)
+        of_bytes(alloc, first, given::member(case, "more")?)
     } else if case.get("text").is_some() {
-        let text = given::owned(alloc, case, "text")?.copy()?;
-        told::text(alloc, text.as_str())
+        of_text(alloc, case)
     } else {
         faults(alloc, case)
     }

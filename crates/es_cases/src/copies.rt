@@ -50,30 +50,45 @@ fn events(alloc: Global, trees: &[Value]) -> anyhow::Result<StoredEvents> {
     Ok(events)
 }
 
-// The moment, the cause and the events of the copy of a recording.
-fn recording(alloc: Global, tree: &Value) -> anyhow::Result<Value> {
-    let at = given::moment(tree, "at")?;
-    let cause = cause(alloc, given::member(tree, "cause")?)?;
-    let events = events(alloc, given::items(tree, "events")?)?;
-    let copy = Recording { cause, at, events }.copy()?;
+// The moment, the cause and the events of a recording.
+fn recording_told(alloc: Global, recording: &Recording) -> anyhow::Result<Value> {
+    let at = recording.at.copy()?;
     let mut told = Items::new(alloc);
-    told.put(copy.at.copy()?.micros());
-    put_cause(&mut told, &copy.cause);
-    for event in copy.events.as_slice() {
+    told.put(at.micros());
+    put_cause(&mut told, &recording.cause);
+    for event in recording.events.as_slice() {
         put_event(&mut told, event);
     }
     told.end()
 }
 
+// The same of its copy.
+fn recording_copied(alloc: Global, recording: &Recording) -> anyhow::Result<Value> {
+    let copy = recording.copy()?;
+    recording_told(alloc, &copy)
+}
+
+fn recording(alloc: Global, tree: &Value) -> anyhow::Result<Value> {
+    let at = given::moment(tree, "at")?;
+    let trees = given::items(tree, "events")?;
+    let cause = cause(alloc, given::member(tree, "cause")?)?;
+    let events = events(alloc, trees)?;
+    recording_copied(alloc, &Recording { cause, at, events })
+}
+
 // The id and the event of the copy of a notification.
-fn notification(alloc: Global, tree: &Value) -> anyhow::Result<Value> {
-    let id = given::number(tree, "number")?;
-    let event = given::stored(alloc, given::member(tree, "event")?)?;
-    let copy = Notification { id, event }.copy()?;
+fn notification_copied(alloc: Global, notification: &Notification) -> anyhow::Result<Value> {
+    let copy = notification.copy()?;
     let mut told = Items::new(alloc);
     told.put(copy.id);
     put_event(&mut told, &copy.event);
     told.end()
+}
+
+fn notification(alloc: Global, tree: &Value) -> anyhow::Result<Value> {
+    let id = given::number(tree, "number")?;
+    let event = given::stored(alloc, given::member(tree, "event")?)?;
+    notification_copied(alloc, &Notification { id, event })
 }
 
 fn snapshot(alloc: Global, tree: &Value) -> anyhow::Result<Snapshot> {
@@ -82,8 +97,9 @@ fn snapshot(alloc: Global, tree: &Value) -> anyhow::Result<Snapshot> {
     let class_version = given::number(tree, "class_version")?;
     let created_on = given::moment(tree, "created_on")?;
     let modified_on = given::moment(tree, "modified_on")?;
+    let state = given::member(tree, "state")?;
     let topic = given::owned(alloc, tree, "topic")?;
-    let state = given::bytes(alloc, given::member(tree, "state")?)?;
+    let state = given::bytes(alloc, state)?;
     Ok(Snapshot {
         originator_id,
         originator_version,
@@ -113,15 +129,21 @@ fn is_small(snapshot: &Snapshot) -> bool
     snapshot.originator_version < 1 << 62 && snapshot.class_version < 1 << 62
 }
 
+// Puts a snapshot.
+fn put(alloc: Global, snapshots: &mut Snapshots, tree: &Value) -> anyhow::Result<()> {
+    let snapshot = snapshot(alloc, tree)?;
+    if is_small(&snapshot) {
+        Ok(snapshots.put(snapshot)?)
+    } else {
+        Err(anyhow::anyhow!("too great a number"))
+    }
+}
+
 // A copy of the snapshots that are there after some were put.
 fn snapshots(alloc: Global, trees: &[Value]) -> anyhow::Result<Snapshots> {
     let mut snapshots = Snapshots::new(alloc);
     for tree in trees {
-        let snapshot = snapshot(alloc, tree)?;
-        if !is_small(&snapshot) {
-            return Err(anyhow::anyhow!("too great a number"));
-        }
-        snapshots.put(snapshot)?;
+        put(alloc, &mut snapshots, tree)?;
     }
     Ok(snapshots.copy()?)
 }

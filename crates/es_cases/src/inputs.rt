@@ -77,6 +77,27 @@ fn steps<S: Source>(
     steps.end()
 }
 
+// The steps of an input that comes in pieces.
+fn of_pieces(
+    alloc: Global,
+    case: &Value,
+    most: usize,
+    limits: (u64, u64),
+    count: u64,
+) -> anyhow::Result<Value> {
+    let bytes = given::bytes(alloc, given::member(case, "input")?)?;
+    let mut source = Pieces { bytes, at: 0, most };
+    steps(alloc, &mut source, limits, count)
+}
+
+// The steps of an input in memory, of which some calls may fail.
+fn of_memory(alloc: Global, case: &Value, limits: (u64, u64), count: u64) -> anyhow::Result<Value> {
+    let failing = given::calls(alloc, case, "failing")?;
+    let bytes = given::bytes(alloc, given::member(case, "input")?)?;
+    let mut source = MemorySource::new(bytes, failing);
+    steps(alloc, &mut source, limits, count)
+}
+
 /// The answer of a case.
 pub(crate) fn answer(alloc: Global, case: &Value) -> anyhow::Result<Value> {
     let limits = (
@@ -84,12 +105,9 @@ pub(crate) fn answer(alloc: Global, case: &Value) -> anyhow::Result<Value> {
         given::number(case, "total_limit")?,
     );
     let count = given::number(case, "steps")?;
-    let bytes = given::bytes(alloc, given::member(case, "input")?)?;
     if let Some(most) = case.get("most").and_then(Value::as_u64) {
-        let most = most as usize;
-        steps(alloc, &mut Pieces { bytes, at: 0, most }, limits, count)
+        of_pieces(alloc, case, most as usize, limits, count)
     } else {
-        let failing = given::calls(alloc, case, "failing")?;
-        steps(alloc, &mut MemorySource::new(bytes, failing), limits, count)
+        of_memory(alloc, case, limits, count)
     }
 }

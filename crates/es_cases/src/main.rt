@@ -1,5 +1,5 @@
-//! Runs the cases of values as texts, records, names, small collections and the outside: those of the crates
-//! that know of no system.
+//! Runs the cases of values as texts, records, names, small collections, the outside, and recorders in tables: those
+//! of the crates that know of no system.
 #![tactic(auto)]
 
 mod atoms;
@@ -9,6 +9,7 @@ mod inputs;
 mod names;
 mod outside;
 mod records;
+mod stores;
 
 use es_suite::Suite;
 use serde_json::Value;
@@ -33,6 +34,9 @@ impl<'a, R: Files + Print + Input + Clock> Suite for Cases<'a, R> {
             "atoms.jsonl" => atoms::answer(alloc, case),
             "collections.jsonl" => collections::answer(alloc, case),
             "copies.jsonl" => copies::answer(alloc, case),
+            "damage.jsonl" | "layouts.jsonl" | "recorders.jsonl" | "tables.jsonl" => {
+                stores::answer(alloc, case)
+            }
             "inputs.jsonl" => inputs::answer(alloc, case),
             "names.jsonl" => names::answer(alloc, case),
             "outside.jsonl" => outside::answer(self.rt, alloc, case),

@@ -45,6 +45,12 @@ fn operands(word: &str) -> Value {
     }
 }
 
+// The topic of an event of a class.
+fn topic(alloc: Global, class: &str, event: &str) -> anyhow::Result<Value> {
+    let topic = topic_of(alloc, class, event)?;
+    told::text(alloc, topic.as_str())
+}
+
 /// The answer of a case.
 pub(crate) fn answer(alloc: Global, case: &Value) -> anyhow::Result<Value> {
     if let Some(name) = case.get("name").and_then(Value::as_str) {
@@ -54,7 +60,10 @@ pub(crate) fn answer(alloc: Global, case: &Value) -> anyhow::Result<Value> {
     } else if let Some(word) = case.get("word").and_then(Value::as_str) {
         Ok(operands(word))
     } else {
-        let (class, event) = (given::text(case, "class")?, given::text(case, "event")?);
-        told::text(alloc, topic_of(alloc, class, event)?.as_str())
+        topic(
+            alloc,
+            given::text(case, "class")?,
+            given::text(case, "event")?,
+        )
     }
 }

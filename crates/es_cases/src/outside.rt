@@ -5,7 +5,7 @@ use es_io::{
     Clock, Document, Documents, FileDocument, ListClock, MemoryDocument, MemorySink, MemorySource,
     Sink, Source, StdSink, StdSource, SystemClock, write_all,
 };
-use es_model::{CallFault, Failed, Moment, Moments, Text};
+use es_model::{Bytes, CallFault, Failed, Moment, Moments, Text};
 use es_suite::given;
 use es_suite::told::{self, Items, Members};
 use serde_json::Value;
@@ -51,12 +51,19 @@ fn steps<D: Document>(alloc: Global, document: &mut D, steps: &[Value]) -> anyho
     answers.end()
 }
 
+// A document with its name.
+fn with_name(alloc: Global, pair: &Value) -> anyhow::Result<(Text, Bytes)> {
+    let bytes = given::member(pair, "bytes")?;
+    let name = given::owned(alloc, pair, "name")?;
+    let bytes = given::bytes(alloc, bytes)?;
+    Ok((name, bytes))
+}
+
 // Documents with their names.
 fn named(alloc: Global, pairs: &[Value]) -> anyhow::Result<Documents> {
     let mut documents = Documents::new(alloc);
     for pair in pairs {
-        let name = given::owned(alloc, pair, "name")?;
-        documents.push((name, given::bytes(alloc, given::member(pair, "bytes")?)?))?;
+        documents.push(with_name(alloc, pair)?)?;
     }
     Ok(documents)
 }
@@ -64,24 +71,29 @@ fn named(alloc: Global, pairs: &[Value]) -> anyhow::Result<Documents> {
 // Documents in memory.
 fn documents(alloc: Global, case: &Value) -> anyhow::Result<Value> {
     let trees = given::items(case, "steps")?;
+    let pairs = given::items(case, "documents")?;
     let failing = given::calls(alloc, case, "failing")?;
-    let documents = named(alloc, given::items(case, "documents")?)?;
-    steps(
-        alloc,
-        &mut MemoryDocument::new(alloc, documents, failing),
-        trees,
-    )
+    let documents = named(alloc, pairs)?;
+    let mut document = MemoryDocument::new(alloc, documents, failing);
+    steps(alloc, &mut document, trees)
+}
+
+// What is read of a source into some rooms.
+fn reads<S: Source>(alloc: Global, source: &mut S, rooms: &[Value]) -> anyhow::Result<Value> {
+    let mut answers = Items::new(alloc);
+    for room in rooms {
+        answers.put(read(alloc, source, room.as_u64().context("no room")?)?);
+    }
+    answers.end()
 }
 
 // A source in memory.
 fn source(alloc: Global, case: &Value) -> anyhow::Result<Value> {
+    let rooms = given::items(case, "rooms")?;
+    let failing = given::calls(alloc, case, "failing")?;
     let bytes = given::bytes(alloc, given::member(case, "source")?)?;
-    let mut source = MemorySource::new(bytes, given::calls(alloc, case, "failing")?);
-    let mut answers = Items::new(alloc);
-    for room in given::items(case, "rooms")?.iter() {
-        answers.put(read(alloc, &mut source, room.as_u64().context("no room")?)?);
-    }
-    answers.end()
+    let mut source = MemorySource::new(bytes, failing);
+    reads(alloc, &mut source, rooms)
 }
 
 // The answer to bytes that are written whole, or handed on.
@@ -111,16 +123,23 @@ fn written<T: Sink>(alloc: Global, sink: &mut T, step: &Value) -> anyhow::Result
     }
 }
 
-// A sink in memory: its answers, and last what was written.
-fn sink(alloc: Global, case: &Value) -> anyhow::Result<Value> {
-    let failing = given::calls(alloc, case, "failing")?;
-    let mut sink = MemorySink::new(alloc, given::number(case, "sink")?, failing)?;
+// The answers of a sink in memory, and last what was written.
+fn writes(alloc: Global, sink: &mut MemorySink, steps: &[Value]) -> anyhow::Result<Value> {
     let mut answers = Items::new(alloc);
-    for step in given::items(case, "steps")?.iter() {
-        answers.put(written(alloc, &mut sink, step)?);
+    for step in steps {
+        answers.put(written(alloc, sink, step)?);
     }
-    answers.put(told::bytes(alloc, sink.bytes())?);
+    answers.put_bytes(sink.bytes());
     answers.end()
+}
+
+// A sink in memory.
+fn sink(alloc: Global, case: &Value) -> anyhow::Result<Value> {
+    let steps = given::items(case, "steps")?;
+    let room = given::number(case, "sink")?;
+    let failing = given::calls(alloc, case, "failing")?;
+    let mut sink = MemorySink::new(alloc, room, failing)?;
+    writes(alloc, &mut sink, steps)
 }
 
 // Moments at so many microseconds.
@@ -162,6 +181,12 @@ fn standard<R: Files + Print + Input + WallClock>(
     told.end()
 }
 
+// Files as documents.
+fn files<R: Files>(rt: &R, alloc: Global, trees: &[Value]) -> anyhow::Result<Value> {
+    let mut files = FileDocument::new(rt);
+    steps(alloc, &mut files, trees)
+}
+
 /// The answer of a case.
 pub(crate) fn answer<R: Files + Print + Input + WallClock>(
     rt: &R,
@@ -171,8 +196,7 @@ pub(crate) fn answer<R: Files + Print + Input + WallClock>(
     if case.get("documents").is_some() {
         documents(alloc, case)
     } else if case.get("files").is_some() {
-        let mut files = FileDocument::new(rt);
-        steps(alloc, &mut files, given::items(case, "files")?)
+        files(rt, alloc, given::items(case, "files")?)
     } else if case.get("source").is_some() {
         source(alloc, case)
     } else if case.get("sink").is_some() {

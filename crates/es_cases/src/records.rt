@@ -28,13 +28,19 @@ fn of_tree(alloc: Global, bytes: &[u8]) -> anyhow::Result<Value> {
     }
 }
 
-/// The answer of a case, which is the same by way of the tree.
-pub(crate) fn answer(alloc: Global, case: &Value) -> anyhow::Result<Value> {
-    let bytes = given::bytes(alloc, given::member(case, "record")?)?;
-    let answer = told_of(alloc, decode_record(alloc, bytes.as_slice()))?;
-    if answer == of_tree(alloc, bytes.as_slice())? {
+// What is read of some bytes, which is the same by way of the tree.
+fn of_bytes(alloc: Global, bytes: &[u8]) -> anyhow::Result<Value> {
+    let answer = told_of(alloc, decode_record(alloc, bytes))?;
+    let again = of_tree(alloc, bytes)?;
+    if answer == again {
         Ok(answer)
     } else {
         Err(anyhow::anyhow!("another answer by way of the tree"))
     }
+}
+
+/// The answer of a case.
+pub(crate) fn answer(alloc: Global, case: &Value) -> anyhow::Result<Value> {
+    let bytes = given::bytes(alloc, given::member(case, "record")?)?;
+    of_bytes(alloc, bytes.as_slice())
 }

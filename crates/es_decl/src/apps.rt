@@ -1,3 +1,4 @@
+ghost use Rattle.std.specs.Prelude.{◌≡◌};
 ghost use Rattle.serde_json.specs.View.{view};
 ghost use Rattle.es_decl.specs.Readings.{Reads};
 ghost use Rattle.es_decl.specs.Declaration as spec;
@@ -6,7 +7,7 @@ use crate::DeclFault;
 use crate::classes::AssignsOf;
 use crate::expressions::Expression;
 use crate::objects::{Object, test_shape};
-use crate::parts::{Number, Part, Several, member, optional, or_else};
+use crate::parts::{Number, Part, Several, given_up, member, optional, or_else};
 use crate::words::{OtherwiseWord, Topic};
 use es_model::limits::{MOST_CLASSES, MOST_RULES, MOST_SECTION};
 use es_model::names::NameForm;
@@ -29,9 +30,43 @@ fn call(alloc: Global, tree: &Value) -> Result<(Expr, Text, Assigns), DeclFault>
     ensures { Reads (spec.call (view tree.now)) result }
 {
     let target = member(alloc, tree, "target", &Expression)?;
-    let command = member(alloc, tree, "do", &Topic)?;
-    let args = member(alloc, tree, "args", &AssignsOf(NameForm::Plain))?;
-    Ok((target, command, args))
+    let command = match member(alloc, tree, "do", &Topic) {
+        Ok(command) => command,
+        Err(fault) => return given_up(target, fault),
+    };
+    match member(alloc, tree, "args", &AssignsOf(NameForm::Plain)) {
+        Ok(args) => Ok((target, command, args)),
+        Err(fault) => given_up((target, command), fault),
+    }
+}
+
+// A rule that applies so, and runs so.
+fn rule(
+    applies: (Text, Option<Text>, Option<Expr>),
+    runs: (Expr, Text, Assigns),
+    otherwise: Otherwise,
+) -> Rule
+    ensures { result ≡ record {
+      topic = applies.0;
+      leader = applies.1;
+      when = applies.2;
+      target = runs.0;
+      command = runs.1;
+      args = runs.2;
+      otherwise = otherwise;
+    } }
+{
+    let (topic, leader, when) = applies;
+    let (target, command, args) = runs;
+    Rule {
+        topic,
+        leader,
+        when,
+        target,
+        command,
+        args,
+        otherwise,
+    }
 }
 
 /// A rule of an application.
@@ -45,18 +80,15 @@ impl Part for RuleObject {
 
     fn read(&self, alloc: Global, tree: &Value) -> Result<Rule, DeclFault> {
         test_shape(alloc, Object::Rule, tree)?;
-        let (topic, leader, when) = condition(alloc, tree)?;
-        let (target, command, args) = call(alloc, tree)?;
-        let otherwise = optional(alloc, tree, "otherwise", &OtherwiseWord)?;
-        Ok(Rule {
-            topic,
-            leader,
-            when,
-            target,
-            command,
-            args,
-            otherwise: or_else(Otherwise::Refuse, otherwise),
-        })
+        let condition = condition(alloc, tree)?;
+        let call = match call(alloc, tree) {
+            Ok(call) => call,
+            Err(fault) => return given_up(condition, fault),
+        };
+        match optional(alloc, tree, "otherwise", &OtherwiseWord) {
+            Ok(otherwise) => Ok(rule(condition, call, or_else(Otherwise::Refuse, otherwise))),
+            Err(fault) => given_up((condition, call), fault),
+        }
     }
 }
 

@@ -1,4 +1,8 @@
+ghost use Rattle.std.specs.Prelude.{Some, codes};
 ghost use Rattle.serde_json.specs.View.{view};
+ghost use Rattle.es_model.specs.declared.limits.TheConstants.{MOST_EVENTS};
+ghost use Rattle.es_decl.specs.Readings.{Reads};
+ghost use Rattle.es_decl.specs.Parts as parts;
 ghost use Rattle.es_decl.specs.Declaration as spec;
 
 use crate::DeclFault;
@@ -6,7 +10,7 @@ use crate::edits::EditObject;
 use crate::expressions::Expression;
 use crate::kinds::KindWord;
 use crate::objects::{Object, test_shape};
-use crate::parts::{NamedParts, Number, Part, Several, member, optional, or_else};
+use crate::parts::{NamedParts, Number, Part, Several, given_up, member, optional, or_else};
 use es_model::limits::{
     MOST_CLASS_VERSION, MOST_COMMANDS, MOST_EDITS, MOST_EVENTS, MOST_FIELDS, MOST_GUARDS,
     MOST_INTERVAL, MOST_TRIGGERS, MOST_UPCASTS,
@@ -116,8 +120,10 @@ impl Part for GuardObject {
     fn read(&self, alloc: Global, tree: &Value) -> Result<Guard, DeclFault> {
         test_shape(alloc, Object::Guard, tree)?;
         let that = member(alloc, tree, "that", &Expression)?;
-        let code = member(alloc, tree, "code", &NameForm::Code)?;
-        Ok(Guard { that, code })
+        match member(alloc, tree, "code", &NameForm::Code) {
+            Ok(code) => Ok(Guard { that, code }),
+            Err(fault) => given_up(that, fault),
+        }
     }
 }
 
@@ -184,6 +190,38 @@ const INTERVAL: Number = Number {
     most: MOST_INTERVAL,
 };
 
+/// The commands of a class.
+const COMMANDS: Several<CommandObject> = Several {
+    least: 0,
+    most: Some(MOST_COMMANDS),
+    part: CommandObject,
+};
+
+// The first event of a class.
+fn created(alloc: Global, tree: &Value, class: &Text) -> Result<EventClass, DeclFault>
+    ensures { Reads (parts.member (codes "created") (spec.event class.now) (view tree.now)) result }
+{
+    let event = EventOf {
+        class: class.copy()?,
+    };
+    member(alloc, tree, "created", &event)
+}
+
+// The later events of a class.
+fn events(alloc: Global, tree: &Value, class: &Text) -> Result<Option<List<EventClass>>, DeclFault>
+    ensures { Reads (parts.optional (codes "events") (parts.several 0 (Some MOST_EVENTS) (spec.event class.now)) (view tree.now)) result }
+{
+    let event = EventOf {
+        class: class.copy()?,
+    };
+    let events = Several {
+        least: 0,
+        most: Some(MOST_EVENTS),
+        part: event,
+    };
+    optional(alloc, tree, "events", &events)
+}
+
 /// A class.
 #[derive(Drop)]
 pub(crate) struct ClassObject;
@@ -194,34 +232,27 @@ impl Part for ClassObject {
     ghost meaning = { λ _. spec.class };
 
     fn read(&self, alloc: Global, tree: &Value) -> Result<Class, DeclFault> {
-        let commands = Several {
-            least: 0,
-            most: Some(MOST_COMMANDS),
-            part: CommandObject,
-        };
         test_shape(alloc, Object::Class, tree)?;
         let name = member(alloc, tree, "name", &NameForm::Class)?;
         let version = optional(alloc, tree, "version", &VERSION)?;
         let interval = optional(alloc, tree, "interval", &INTERVAL)?;
         let fields = member(alloc, tree, "fields", &KindsOf(NameForm::Field))?;
-        let events = Several {
-            least: 0,
-            most: Some(MOST_EVENTS),
-            part: EventOf {
-                class: name.copy()?,
-            },
+        let created = created(alloc, tree, &name)?;
+        let events = match events(alloc, tree, &name) {
+            Ok(events) => events,
+            Err(fault) => return given_up((name, fields, created), fault),
         };
-        let created = member(alloc, tree, "created", &events.part)?;
-        let events = optional(alloc, tree, "events", &events)?;
-        let commands = optional(alloc, tree, "commands", &commands)?;
-        Ok(Class {
-            name,
-            version: or_else(1, version),
-            interval,
-            fields,
-            created,
-            events: or_else(List::new(alloc), events),
-            commands: or_else(List::new(alloc), commands),
-        })
+        match optional(alloc, tree, "commands", &COMMANDS) {
+            Ok(commands) => Ok(Class {
+                name,
+                version: or_else(1, version),
+                interval,
+                fields,
+                created,
+                events: or_else(List::new(alloc), events),
+                commands: or_else(List::new(alloc), commands),
+            }),
+            Err(fault) => given_up(((name, fields), (created, events)), fault),
+        }
     }
 }

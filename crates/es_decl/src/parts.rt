@@ -1,4 +1,4 @@
-ghost use Rattle.std.specs.Prelude.{◌≡◌, Some, option_map};
+ghost use Rattle.std.specs.Prelude.{◌≡◌, Err, Some, option_map};
 ghost use Rattle.serde_json.specs.Data.{Data};
 ghost use Rattle.serde_json.specs.View.{view, items_view, members_view};
 ghost use Rattle.es_decl.specs.Readings.{Reading, Reads};
@@ -59,6 +59,13 @@ pub(crate) fn optional<P: Part>(
         Some(value) => in_member(alloc, name, some(alloc, value, part)),
         None => Ok(None),
     }
+}
+
+/// Lets go what was read before a fault, and gives the fault.
+pub(crate) fn given_up<A: Drop, B: Drop>(_read: A, fault: DeclFault) -> Result<B, DeclFault>
+    ensures { result ≡ Err fault }
+{
+    Err(fault)
 }
 
 /// What stands for an absent member.

@@ -91,9 +91,8 @@ fn pairs_of(alloc: Global, sys: &System) -> anyhow::Result<Items> {
     Ok(items)
 }
 
-// The lists of who leads and who follows.
-fn lists(alloc: Global, sys: &System, leader: &Text) -> anyhow::Result<Value> {
-    let mut told = Members::new(alloc);
+// Tells the lists of who leads and who follows.
+fn put_lists(alloc: Global, told: &mut Members, sys: &System, leader: &Text) -> anyhow::Result<()> {
     told.put_items("pairs", pairs_of(alloc, sys)?);
     told.put_items(
         "followers_of",
@@ -103,6 +102,13 @@ fn lists(alloc: Global, sys: &System, leader: &Text) -> anyhow::Result<Value> {
     told.put_items("leaders", names(alloc, &leaders(alloc, sys)?));
     told.put_items("leaders_only", names(alloc, &leaders_only(alloc, sys)?));
     told.put_items("processors", names(alloc, &processors(alloc, sys)?));
+    Ok(())
+}
+
+// The lists of who leads and who follows.
+fn lists(alloc: Global, sys: &System, leader: &Text) -> anyhow::Result<Value> {
+    let mut told = Members::new(alloc);
+    put_lists(alloc, &mut told, sys, leader)?;
     told.end()
 }
 
@@ -139,9 +145,11 @@ fn with_first(alloc: Global, classes: Classes, case: &Value) -> anyhow::Result<C
 
 // Whether a system is one that a document may declare, and what doesn't fit in it.
 fn judged(alloc: Global, sys: &System) -> anyhow::Result<Value> {
+    let is_checked = is_checked(alloc, sys)?;
+    let misfit = first_misfit(alloc, sys)?;
     let mut told = Members::new(alloc);
-    told.put("checked", is_checked(alloc, sys)?);
-    if let Some(misfit) = first_misfit(alloc, sys)? {
+    told.put("checked", is_checked);
+    if let Some(misfit) = &misfit {
         told.put("code", told::code(misfit.code));
         told.put("path", misfit.path.as_str());
     }
@@ -163,27 +171,52 @@ fn with_class(alloc: Global, base: &Value, case: &Value) -> anyhow::Result<Syste
     })
 }
 
-// Who follows whom in the sample, and whether it is a checked system.
+// Who follows whom in a system, and whether it is checked.
+fn followed(alloc: Global, sys: &System) -> anyhow::Result<Value> {
+    let is_checked = is_checked(alloc, sys)?;
+    let pairs = pairs_of(alloc, sys)?;
+    let mut told = Members::new(alloc);
+    told.put("checked", is_checked);
+    told.put_items("pairs", pairs);
+    told.end()
+}
+
+// The same of the sample.
 fn of_sample(alloc: Global) -> anyhow::Result<Value> {
     let sys = sample(alloc)?;
-    let mut told = Members::new(alloc);
-    told.put("checked", is_checked(alloc, &sys)?);
-    told.put_items("pairs", pairs_of(alloc, &sys)?);
-    told.end()
+    followed(alloc, &sys)
+}
+
+// What is read of the bytes of a document.
+fn of_bytes(alloc: Global, document: &Value) -> anyhow::Result<Value> {
+    let bytes = given::bytes(alloc, document)?;
+    read(alloc, bytes.as_slice())
+}
+
+// The lists of the base.
+fn of_lists(alloc: Global, base: &Value, case: &Value) -> anyhow::Result<Value> {
+    let leader = given::owned(alloc, case, "lists_of")?;
+    let sys = system(alloc, base)?;
+    lists(alloc, &sys, &leader)
+}
+
+// What the base with another first class is judged.
+fn of_class(alloc: Global, base: &Value, case: &Value) -> anyhow::Result<Value> {
+    let sys = with_class(alloc, base, case)?;
+    judged(alloc, &sys)
 }
 
 /// The answer of a case.
 pub(crate) fn answer(alloc: Global, base: &Value, case: &Value) -> anyhow::Result<Value> {
     if let Some(document) = case.get("document") {
-        read(alloc, given::bytes(alloc, document)?.as_slice())
+        of_bytes(alloc, document)
     } else if let Some(path) = case.get("in").and_then(Value::as_str) {
         changed(alloc, base, path, given::member(case, "put")?)
     } else if case.get("lists_of").is_some() {
-        let leader = given::owned(alloc, case, "lists_of")?;
-        lists(alloc, &system(alloc, base)?, &leader)
+        of_lists(alloc, base, case)
     } else if case.get("sample").is_some() {
         of_sample(alloc)
     } else {
-        judged(alloc, &with_class(alloc, base, case)?)
+        of_class(alloc, base, case)
     }
 }

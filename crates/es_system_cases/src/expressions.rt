@@ -111,13 +111,16 @@ fn of_length(alloc: Global, case: &Value, letters: u64) -> anyhow::Result<Value>
     evaluated(alloc, case, &length)
 }
 
+// What a copy of an expression comes to.
+fn of_copy(alloc: Global, case: &Value, expr: &Expr) -> anyhow::Result<Value> {
+    let copy = expr.copy()?;
+    evaluated(alloc, case, &copy)
+}
+
 // What the expression of a tree comes to.
 fn of_tree(alloc: Global, case: &Value, tree: &Value) -> anyhow::Result<Value> {
     match read_expr(alloc, tree) {
-        Ok(expr) => {
-            let expr = expr.copy()?;
-            evaluated(alloc, case, &expr)
-        }
+        Ok(expr) => of_copy(alloc, case, &expr),
         Err(fault) => documents::faulty(alloc, &fault),
     }
 }

@@ -33,19 +33,24 @@ fn has_its_fields(sys: &System, aggregate: &Aggregate) -> bool
     }
 }
 
+// An aggregate with the tree of its fields.
+fn with_fields(alloc: Global, aggregate: &Aggregate, fields: Value) -> anyhow::Result<Value> {
+    let mut told = Members::new(alloc);
+    told.put("fields", fields);
+    told.put_id("id", aggregate.id);
+    told.put("version", aggregate.version);
+    told.put("class", aggregate.class.as_str());
+    told.put("created_on", aggregate.created_on.micros());
+    told.put("modified_on", aggregate.modified_on.micros());
+    told.put("pending", aggregate.pending.len() as u64);
+    told.end()
+}
+
 // An aggregate as its events have made it, by a copy.
 fn told_of(alloc: Global, aggregate: &Aggregate) -> anyhow::Result<Value> {
     let copy = aggregate.copy()?;
     let fields = encode_tree(alloc, &copy.fields)?;
-    let mut told = Members::new(alloc);
-    told.put("fields", fields);
-    told.put_id("id", copy.id);
-    told.put("version", copy.version);
-    told.put("class", copy.class.as_str());
-    told.put("created_on", copy.created_on.micros());
-    told.put("modified_on", copy.modified_on.micros());
-    told.put("pending", copy.pending.len() as u64);
-    told.end()
+    with_fields(alloc, &copy, fields)
 }
 
 // Why an event can't be applied.
@@ -82,20 +87,45 @@ fn applied(
     }
 }
 
+// How an aggregate goes on by a copy of an event.
+fn applied_copy(
+    alloc: Global,
+    sys: &System,
+    aggregate: &mut Aggregate,
+    event: &DomainEvent,
+) -> anyhow::Result<Value>
+    requires { IsCheckedSystem sys.now }
+{
+    let copy = event.copy()?;
+    applied(alloc, sys, aggregate, &copy)
+}
+
+// How an aggregate goes on by the event of a tree.
+fn goes_on(
+    alloc: Global,
+    sys: &System,
+    aggregate: &mut Aggregate,
+    tree: &Value,
+) -> anyhow::Result<Value>
+    requires { IsCheckedSystem sys.now }
+{
+    let event = mapping::event(alloc, tree)?;
+    applied_copy(alloc, sys, aggregate, &event)
+}
+
 // What each later event makes of an aggregate.
 fn folded(
     alloc: Global,
     sys: &System,
-    mut aggregate: Aggregate,
+    aggregate: &mut Aggregate,
     later: &[Value],
 ) -> anyhow::Result<Value>
     requires { IsCheckedSystem sys.now }
 {
     let mut answers = Items::new(alloc);
-    answers.put(told_of(alloc, &aggregate)?);
+    answers.put(told_of(alloc, aggregate)?);
     for tree in later {
-        let event = mapping::event(alloc, tree)?.copy()?;
-        answers.put(applied(alloc, sys, &mut aggregate, &event)?);
+        answers.put(goes_on(alloc, sys, aggregate, tree)?);
     }
     answers.end()
 }
@@ -109,7 +139,7 @@ fn begun(alloc: Global, sys: &System, first: &Value, later: &[Value]) -> anyhow:
         return Err(anyhow::anyhow!("no declared event"));
     }
     match Aggregate::begin(alloc, sys, &first) {
-        Ok(aggregate) => folded(alloc, sys, aggregate, later),
+        Ok(mut aggregate) => folded(alloc, sys, &mut aggregate, later),
         Err(fault) => faulty(alloc, fault),
     }
 }

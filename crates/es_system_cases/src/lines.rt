@@ -3,7 +3,7 @@
 use crate::documents;
 use es_domain::Command;
 use es_lines::{LineFault, Request, command_text, read_line};
-use es_model::{Duplicate, Text};
+use es_model::{Duplicate, System, Text};
 use es_suite::given;
 use es_suite::told::{self, Members};
 use serde_json::Value;
@@ -75,12 +75,17 @@ fn asked(alloc: Global, request: &Request) -> anyhow::Result<Value> {
     }
 }
 
+// What a line asks of a system.
+fn asked_of(alloc: Global, sys: &System, line: &[u8]) -> anyhow::Result<Value> {
+    match read_line(alloc, sys, line) {
+        Ok(request) => asked(alloc, &request),
+        Err(fault) => faulty(alloc, fault),
+    }
+}
+
 /// The answer of a case.
 pub(crate) fn answer(alloc: Global, base: &Value, case: &Value) -> anyhow::Result<Value> {
     let line = given::bytes(alloc, given::member(case, "line")?)?;
     let sys = documents::system(alloc, base)?;
-    match read_line(alloc, &sys, line.as_slice()) {
-        Ok(request) => asked(alloc, &request),
-        Err(fault) => faulty(alloc, fault),
-    }
+    asked_of(alloc, &sys, line.as_slice())
 }

@@ -4,7 +4,7 @@
 use crate::documents::system;
 use anyhow::Context;
 use es_mapper::{MapFault, to_domain, to_stored, upcast};
-use es_model::{DomainEvent, StoredEvent, System};
+use es_model::{DomainEvent, Edit, Fields, StoredEvent, System};
 use es_suite::given;
 use es_suite::told::{self, Members};
 use es_transcode::encode_tree;
@@ -63,10 +63,8 @@ fn mapped(alloc: Global, sys: &System, stored: &StoredEvent) -> anyhow::Result<V
     }
 }
 
-// The state that is stored of an event, and what is read back from it.
-fn kept(alloc: Global, sys: &System, event: &DomainEvent) -> anyhow::Result<Value> {
-    let stored = to_stored(alloc, sys, event)?;
-    let back = mapped(alloc, sys, &stored)?;
+// A stored event, with what is read back from it.
+fn both(alloc: Global, back: Value, stored: &StoredEvent) -> anyhow::Result<Value> {
     let mut told = Members::new(alloc);
     told.put("back", back);
     told.put_bytes("state", stored.state.as_slice());
@@ -75,24 +73,53 @@ fn kept(alloc: Global, sys: &System, event: &DomainEvent) -> anyhow::Result<Valu
     told.end()
 }
 
+// The state that is stored of an event, and what is read back from it.
+fn kept(alloc: Global, sys: &System, event: &DomainEvent) -> anyhow::Result<Value> {
+    let stored = to_stored(alloc, sys, event)?;
+    let back = mapped(alloc, sys, &stored)?;
+    both(alloc, back, &stored)
+}
+
+// Fields after some edits.
+fn after(alloc: Global, edits: &[Edit], fields: &mut Fields) -> anyhow::Result<Value> {
+    upcast(edits, fields)?;
+    Ok(encode_tree(alloc, fields)?)
+}
+
 // The fields after the edits of the first upcast of the first class's Created event.
 fn edited(alloc: Global, sys: &System, case: &Value) -> anyhow::Result<Value> {
     let class = sys.classes.as_slice().first().context("no class")?;
     let upcasts = class.created.upcasts.as_slice();
     let edits = upcasts.first().context("no upcast")?;
     let mut fields = given::fields(alloc, case, "edited")?;
-    upcast(edits.as_slice(), &mut fields)?;
-    Ok(encode_tree(alloc, &fields)?)
+    after(alloc, edits.as_slice(), &mut fields)
+}
+
+// What is kept of an event that is given.
+fn of_event(alloc: Global, sys: &System, tree: &Value) -> anyhow::Result<Value> {
+    let event = event(alloc, tree)?;
+    kept(alloc, sys, &event)
+}
+
+// What a stored event that is given stands for.
+fn of_stored(alloc: Global, sys: &System, tree: &Value) -> anyhow::Result<Value> {
+    let stored = given::stored(alloc, tree)?;
+    mapped(alloc, sys, &stored)
+}
+
+// The answer under a system.
+fn under(alloc: Global, sys: &System, case: &Value) -> anyhow::Result<Value> {
+    if let Some(tree) = case.get("event") {
+        of_event(alloc, sys, tree)
+    } else if let Some(tree) = case.get("stored") {
+        of_stored(alloc, sys, tree)
+    } else {
+        edited(alloc, sys, case)
+    }
 }
 
 /// The answer of a case.
 pub(crate) fn answer(alloc: Global, base: &Value, case: &Value) -> anyhow::Result<Value> {
     let sys = system(alloc, base)?;
-    if let Some(tree) = case.get("event") {
-        kept(alloc, &sys, &event(alloc, tree)?)
-    } else if let Some(tree) = case.get("stored") {
-        mapped(alloc, &sys, &given::stored(alloc, tree)?)
-    } else {
-        edited(alloc, &sys, case)
-    }
+    under(alloc, &sys, case)
 }

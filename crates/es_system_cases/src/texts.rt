@@ -123,12 +123,18 @@ fn code(word: &str) -> Option<Code> {
     }
 }
 
+// Gives a name its number.
+fn put_count(alloc: Global, counts: &mut Counts, name: &str, number: &Value) -> anyhow::Result<()> {
+    let number = number.as_u64().context("no number")?;
+    counts.put(Text::from_str(alloc, name)?, number)?;
+    Ok(())
+}
+
 // How many recordings were added, by application.
 fn counts(alloc: Global, tree: &Value) -> anyhow::Result<Counts> {
     let mut counts = Counts::new(alloc);
     for (name, number) in tree.as_object().context("no counts")?.iter() {
-        let number = number.as_u64().context("no number")?;
-        counts.put(Text::from_str(alloc, name.as_str())?, number)?;
+        put_count(alloc, &mut counts, name.as_str(), number)?;
     }
     Ok(counts.copy()?)
 }
@@ -220,25 +226,34 @@ fn fixed_line(alloc: Global, end: &End) -> anyhow::Result<Value> {
     }
 }
 
-// The text of a reply.
-fn of_reply(alloc: Global, reply: &Reply) -> anyhow::Result<Value> {
-    told::bytes(alloc, reply_text(alloc, reply)?.as_slice())
+// The text of the reply of a name.
+fn of_reply(alloc: Global, name: &str, case: &Value) -> anyhow::Result<Value> {
+    let reply = reply(alloc, name, case)?;
+    let text = reply_text(alloc, &reply)?;
+    told::bytes(alloc, text.as_slice())
 }
 
 // The text of an end line.
 fn of_end(alloc: Global, end: &End) -> anyhow::Result<Value> {
-    told::bytes(alloc, end_text(alloc, end)?.as_slice())
+    let text = end_text(alloc, end)?;
+    told::bytes(alloc, text.as_slice())
+}
+
+// The line of an end, or the one that takes no memory.
+fn line_of(alloc: Global, end: &End, case: &Value) -> anyhow::Result<Value> {
+    if case.get("fixed").is_some() {
+        fixed_line(alloc, end)
+    } else {
+        of_end(alloc, end)
+    }
 }
 
 /// The answer of a case.
 pub(crate) fn answer(alloc: Global, case: &Value) -> anyhow::Result<Value> {
     if let Some(name) = case.get("reply").and_then(Value::as_str) {
-        return of_reply(alloc, &reply(alloc, name, case)?);
-    }
-    let end = end(alloc, given::text(case, "end")?, case)?;
-    if case.get("fixed").is_some() {
-        fixed_line(alloc, &end)
+        of_reply(alloc, name, case)
     } else {
-        of_end(alloc, &end)
+        let end = end(alloc, given::text(case, "end")?, case)?;
+        line_of(alloc, &end, case)
     }
 }

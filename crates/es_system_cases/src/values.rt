@@ -58,13 +58,18 @@ fn each(alloc: Global, fields: &Fields, kinds: &Kinds) -> Items {
     answers
 }
 
+// Which of some values fit, and whether they do together.
+fn judged(alloc: Global, fields: &Fields, kinds: &Kinds) -> anyhow::Result<Value> {
+    let mut told = Members::new(alloc);
+    told.put("at_least", fit(fields, kinds));
+    told.put("exactly", are_of_kinds(fields, kinds));
+    told.put_items("each", each(alloc, fields, kinds));
+    told.end()
+}
+
 /// The answer of a case.
 pub(crate) fn answer(alloc: Global, case: &Value) -> anyhow::Result<Value> {
     let fields = given::fields(alloc, case, "fields")?;
     let kinds = kinds(alloc, given::member(case, "kinds")?)?;
-    let mut told = Members::new(alloc);
-    told.put("at_least", fit(&fields, &kinds));
-    told.put("exactly", are_of_kinds(&fields, &kinds));
-    told.put_items("each", each(alloc, &fields, &kinds));
-    told.end()
+    judged(alloc, &fields, &kinds)
 }
