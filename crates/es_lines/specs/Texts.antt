@@ -14,7 +14,7 @@ use Rattle.es_transcode.specs.MomentText.{moment_text}
 use Rattle.es_lines.specs.declared.replies.Reply.{Reply}
 use Rattle.es_lines.specs.declared.replies.Reply.TheVariants as reply
 use Rattle.es_lines.specs.declared.ends.End.{End}
-use Rattle.es_lines.specs.declared.ends.End.TheVariants.{Ok, Memory, Usage, Declaration, System, Input, Recorder, Refused, Turns, Unreadable, Full, Over, NotBuilt}
+use Rattle.es_lines.specs.declared.ends.End.TheVariants.{Ok, Memory, Usage, Declaration, System, Input, Recorder, Refused, Turns, Ahead, Unreadable, Full, Over}
 
 -- ---- members, before others
 
@@ -157,6 +157,14 @@ end_tree (Turns app turns) =
     (text (codes "end") (codes "turns")
     (count (codes "turns") turns
     no_members)))
+end_tree (Ahead app leader tracked last) =
+    object
+    (text (codes "app") app
+    (text (codes "end") (codes "ahead")
+    (count (codes "last") last
+    (text (codes "leader") leader
+    (count (codes "tracked") tracked
+    no_members)))))
 end_tree (Unreadable app id) =
     object
     (text (codes "app") app
@@ -171,7 +179,6 @@ end_tree (Full app last capacity) =
     (count (codes "last") last
     no_members))))
 end_tree Over = lone (codes "end") (codes "over")
-end_tree NotBuilt = lone (codes "end") (codes "not-built")
 
 -- the end line, without its line feed
 abbrev pub end_text : End → List ℕ
@@ -185,5 +192,4 @@ is_fixed System = true
 is_fixed Input = true
 is_fixed Recorder = true
 is_fixed Over = true
-is_fixed NotBuilt = true
 is_fixed e = false

@@ -42,6 +42,13 @@ pub enum End {
         code: Text,
         rule: u64,
     },
+    /// At the opening a follower tracked a notification of a leader past the leader's last one.
+    Ahead {
+        app: Text,
+        leader: Text,
+        tracked: u64,
+        last: u64,
+    },
     /// An application has recorded as many notifications as it may, and one more is there.
     Turns {
         app: Text,
@@ -60,8 +67,6 @@ pub enum End {
     },
     /// The next line doesn't end within the bytes that lines may have together.
     Over,
-    /// The stores hold what this stage of the program can't run over yet.
-    NotBuilt,
 }
 
 /// The text of an end line, without a line feed.
@@ -88,10 +93,10 @@ pub fn fixed_end_line(end: &End) -> Option<&'static [u8]>
         End::Recorder => Some(b"{\"end\":\"recorder\"}\n"),
         End::Refused { .. } => None,
         End::Turns { .. } => None,
+        End::Ahead { .. } => None,
         End::Unreadable { .. } => None,
         End::Full { .. } => None,
         End::Over => Some(b"{\"end\":\"over\"}\n"),
-        End::NotBuilt => Some(b"{\"end\":\"not-built\"}\n"),
     }
 }
 
@@ -115,6 +120,12 @@ fn write_end(out: &mut Writer, end: &End) -> Result<(), AllocError>
             rule,
         } => write_refused(out, app, leader, *id, *recordings, code, *rule),
         End::Turns { app, turns } => write_turns(out, app, *turns),
+        End::Ahead {
+            app,
+            leader,
+            tracked,
+            last,
+        } => write_ahead(out, app, leader, *tracked, *last),
         End::Unreadable { app, id } => write_unreadable(out, app, *id),
         End::Full {
             app,
@@ -122,7 +133,6 @@ fn write_end(out: &mut Writer, end: &End) -> Result<(), AllocError>
             capacity,
         } => write_full(out, app, *last, *capacity),
         End::Over => write_lone(out, "over"),
-        End::NotBuilt => write_lone(out, "not-built"),
     }
 }
 
@@ -213,6 +223,24 @@ fn write_turns(out: &mut Writer, app: &Text, turns: u64) -> Result<(), AllocErro
     put_text(out, "app", app.as_str())?;
     put_text(out, "end", "turns")?;
     put_number(out, "turns", turns)?;
+    out.end_object()
+}
+
+fn write_ahead(
+    out: &mut Writer,
+    app: &Text,
+    leader: &Text,
+    tracked: u64,
+    last: u64,
+) -> Result<(), AllocError>
+    ensures { OnOk result (Adds out.old out.new (json_tokens (outline (spec.end_tree (End.Ahead app.now leader.now tracked last))))) }
+{
+    out.begin_object()?;
+    put_text(out, "app", app.as_str())?;
+    put_text(out, "end", "ahead")?;
+    put_number(out, "last", last)?;
+    put_text(out, "leader", leader.as_str())?;
+    put_number(out, "tracked", tracked)?;
     out.end_object()
 }
 

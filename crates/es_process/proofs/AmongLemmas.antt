@@ -1,10 +1,12 @@
 -- Elements of lists, names, and maps with something put at a name.
-use Rattle.std.proofs.Common.{◌≡◌, ◌<◌, ◌⊎◌, inl, inr, ℕ, zero, suc, Bool, true, false, not, ◌||◌, List, [], ◌∷◌, ◌++◌, length, filter, Contains, slice_index_or, if◌then◌else◌, refl, sym, ap, ◌∙◌, subst, arith}
+use Rattle.std.proofs.Common.{◌≡◌, ◌<◌, ◌⊎◌, inl, inr, ℕ, zero, suc, Bool, true, false, ◌||◌, List, [], ◌∷◌, ◌++◌, length, map, filter, Contains, slice_index_or, if◌then◌else◌, refl, sym, ap, ◌∙◌, subst, arith}
+use Rattle.std.specs.List.{list_any}
 use Rattle.std.specs.Str.{bytes_eq}
 use Rattle.std.proofs.lemmas.Slice.Eq.{bytes_eq-Decides}
 use Rattle.es_model.specs.Values.{Name}
+use Rattle.es_decl.specs.Pairs.{leaders_in, gathered, with_new}
 use Rattle.es_recorder.specs.Held.{put}
-use Rattle.es_process.specs.SingleThread.{led_by, leaders_of, is_among}
+use Rattle.es_process.specs.SingleThread.{led_by, is_among}
 
 pub contains-here : {A : Type 0} (x : A) (xs : List A) → Contains (x ∷ xs) x
 contains-here x xs = (0, omega arith, refl)
@@ -67,18 +69,44 @@ is-same a b = (bytes_eq-Decides a b).1
 pub led-contains : (pairs : List (Name × Name)) (p : Name × Name) → Contains pairs p → Contains (led_by pairs p.0) p
 led-contains pairs p so = filter-contains (λ q. bytes_eq q.0 p.0) pairs p (is-same p.0 p.0 refl) so
 
-either_leads : (b : Bool) (a c : Name) (ns : List Name) → (b ≡ true → a ≡ c) → (b ≡ false → Contains ns a) → Contains (c ∷ ns) a
-either_leads true a c ns same other = subst (Contains (c ∷ ns)) (sym (same refl)) (contains-here c ns)
-either_leads false a c ns same other = contains-later c ns a (other refl)
+-- an item that is gathered stays, and each of the items is among those that are gathered
+new_keeps : {A : Type 0} (b : Bool) (xs : List A) (x y : A) → Contains xs y → Contains (if b then xs else xs ++ x ∷ []) y
+new_keeps true xs x y so = so
+new_keeps false xs x y so = contains-left xs (x ∷ []) y so
+
+gathered_keeps : {A : Type 0} (same : A → A → Bool) (xs ys : List A) (y : A) → Contains xs y → Contains (gathered same xs ys) y
+gathered_keeps same xs [] y so = so
+gathered_keeps same xs (x ∷ ys) y so = gathered_keeps same (with_new same xs x) ys y (new_keeps (list_any (same x) xs) xs x y so)
+
+any_same : (b : Bool) (x name : Name) (xs : List Name) → (b ≡ true → name ≡ x) → (list_any (bytes_eq name) xs ≡ true → Contains xs name) → (b || list_any (bytes_eq name) xs) ≡ true → Contains (x ∷ xs) name
+any_same true x name xs same later is = subst (Contains (x ∷ xs)) (sym (same refl)) (contains-here x xs)
+any_same false x name xs same later is = contains-later x xs name (later is)
+
+any_contains : (name : Name) (xs : List Name) → list_any (bytes_eq name) xs ≡ true → Contains xs name
+any_contains name [] is = absurd (cc is)
+any_contains name (x ∷ xs) is = any_same (bytes_eq name x) x name xs (same-name name x) (any_contains name xs) is
+
+new_there : (b : Bool) (xs : List Name) (name : Name) → (b ≡ true → Contains xs name) → Contains (if b then xs else xs ++ name ∷ []) name
+new_there true xs name there = there refl
+new_there false xs name there = contains-last xs name
+
+gathered_there : (xs names : List Name) (name : Name) → Contains names name → Contains (gathered bytes_eq xs names) name
+gathered_there xs [] name so = contains-none name so
+gathered_there xs (n ∷ names) name so = elim (contains-cases n names name so) [
+  | inl is ↦ gathered_keeps bytes_eq (with_new bytes_eq xs n) names name (subst (Contains (with_new bytes_eq xs n)) is (new_there (list_any (bytes_eq n) xs) xs n (any_contains n xs)))
+  | inr behind ↦ gathered_there (with_new bytes_eq xs n) names name behind
+]
+
+pub contains-map : {A B : Type 0} (f : A → B) (xs : List A) (x : A) → Contains xs x → Contains (map f xs) (f x)
+contains-map f [] x so = contains-none x so
+contains-map f (y ∷ ys) x so = elim (contains-cases y ys x so) [
+  | inl is ↦ subst (λ z. Contains (f y ∷ map f ys) (f z)) is (contains-here (f y) (map f ys))
+  | inr behind ↦ contains-later (f y) (map f ys) (f x) (contains-map f ys x behind)
+]
 
 -- and its leader is among the leaders
-pub leaders-contains : (pairs : List (Name × Name)) (p : Name × Name) → Contains pairs p → Contains (leaders_of pairs) p.0
-leaders-contains [] p so = contains-none p so
-leaders-contains (q ∷ qs) p so = elim (contains-cases q qs p so) [
-  | inl is ↦ subst (λ r. Contains (leaders_of (q ∷ qs)) r.0) is (contains-here q.0 (filter (λ n. not (bytes_eq n q.0)) (leaders_of qs)))
-  | inr behind ↦ either_leads (bytes_eq p.0 q.0) p.0 q.0 (filter (λ n. not (bytes_eq n q.0)) (leaders_of qs)) (same-name p.0 q.0)
-      (λ differ. filter-contains (λ n. not (bytes_eq n q.0)) (leaders_of qs) p.0 (ap not differ) (leaders-contains qs p behind))
-]
+pub leaders-contains : (pairs : List (Name × Name)) (p : Name × Name) → Contains pairs p → Contains (leaders_in pairs) p.0
+leaders-contains pairs p so = gathered_there [] (map (λ q. q.0) pairs) p.0 (contains-map (λ (q : Name × Name). q.0) pairs p so)
 
 among_step : (b : Bool) (n name : Name) (ns : List Name) → (b ≡ true → n ≡ name) → (is_among name ns ≡ true → Contains ns name) → (b || is_among name ns) ≡ true → Contains (n ∷ ns) name
 among_step true n name ns same later is = subst (Contains (n ∷ ns)) (same refl) (contains-here n ns)

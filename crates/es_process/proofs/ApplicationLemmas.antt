@@ -28,7 +28,7 @@ use Rattle.es_lines.specs.declared.request.Request.TheVariants.{Do}
 use Rattle.es_process.specs.declared.application.Application.{Application}
 use Rattle.es_process.specs.declared.faults.RunFault.{RunFault}
 use Rattle.es_process.specs.declared.faults.RunFault.TheVariants as fault
-use Rattle.es_lines.specs.declared.ends.End.TheVariants.{Full, Refused, Turns}
+use Rattle.es_lines.specs.declared.ends.End.TheVariants.{Full, Turns}
 use Rattle.es_lines.specs.declared.replies.Reply.{Reply}
 use Rattle.es_lines.specs.declared.replies.Reply.TheVariants.{Accepted, Conflict}
 use Rattle.es_process.specs.Answer.{Answer, says, accepts, takes, ends, accept_unless, recording_of, put_each, with_due, due_each, due_of, differs, answer_of, command_answer, request_answer, takes_reading, Followed, adds, stops, add_unless, followed_of, followed, options}

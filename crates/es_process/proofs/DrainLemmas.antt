@@ -11,6 +11,7 @@ use Rattle.es_model.specs.Lines.{Line, text, long, over}
 use Rattle.es_model.specs.Tracking.{tracked_in}
 use Rattle.es_model.specs.Values.{Name}
 use Rattle.es_io.specs.Readings.{Readings, first_reading, later_readings}
+use Rattle.es_decl.specs.Pairs.{leaders_in}
 use Rattle.es_recorder.specs.Held.{put}
 use Rattle.es_lines.specs.Requests.{Asked, asks, refused}
 use Rattle.es_lines.specs.declared.request.Request.{Request}
@@ -19,7 +20,7 @@ use Rattle.es_lines.specs.declared.ends.End.TheVariants.{Turns}
 use Rattle.es_process.specs.Answer.{Options, Answer, says, accepts, takes, ends, request_answer, takes_reading, Followed, adds, stops, followed_of}
 use Rattle.es_process.specs.Contents.{Contents, added, snapped}
 use Rattle.es_process.specs.Decision.{Rules, logs_of}
-use Rattle.es_process.specs.SingleThread.{Place, Turn, finished, goes_on, turn_at, line_turn, request_turn, app_turn, answer_turn, readings_after, next_turn, followed_turn, led_by, leaders_of, prompt, Run, after, steps_of, IsRun, HasOneRun, start}
+use Rattle.es_process.specs.SingleThread.{Place, Turn, finished, goes_on, turn_at, line_turn, request_turn, app_turn, answer_turn, readings_after, next_turn, followed_turn, led_by, prompt, Run, after, steps_of, IsRun, HasOneRun, start}
 use Rattle.es_process.proofs.AmongLemmas.{contains-cases, contains-filter, contains-here, contains-later, contains-none, put-here, same-name}
 use Rattle.es_process.proofs.SingleThreadLemmas.{run-finished, run-unique, Goes-none, Goes-turn, Goes-run}
 
@@ -176,5 +177,5 @@ module _ (rules : Rules) (options : Options) (openings : Histories) where
   -- the run from the start
   pub run-exists : (opening : Contents) (readings : Readings) (lines : List Line) → HasOneRun rules options openings (start rules opening readings lines)
   run-exists opening readings lines =
-      let so : Runs (start rules opening readings lines) = all_run lines (idle_runs lines) opening readings (λ app. 0) (leaders_of rules.pairs) 0 in
+      let so : Runs (start rules opening readings lines) = all_run lines (idle_runs lines) opening readings (λ app. 0) (leaders_in rules.pairs) 0 in
       record { run = so.0; is = so.1; only = λ other is. run-unique rules options openings (start rules opening readings lines) other so.0 is so.1 }

@@ -1,5 +1,5 @@
 -- What applications hold after one of them changed.
-use Rattle.std.proofs.Common.{◌≡◌, ◌≤◌, ℕ, zero, suc, true, false, List, [], ◌∷◌, ◌++◌, Option, Some, None, Contains, slice_get, slice_set, option_map, refl, sym, ap, ◌∙◌, subst, arith}
+use Rattle.std.proofs.Common.{◌≡◌, ◌≤◌, inl, inr, ℕ, zero, suc, true, false, List, [], ◌∷◌, ◌++◌, Option, Some, None, Contains, slice_get, slice_set, option_map, refl, sym, ap, ◌∙◌, subst, arith}
 use Rattle.std.proofs.lemmas.Option.{slice_get-map}
 use Rattle.es_model.specs.Causes.{Rose}
 use Rattle.es_model.specs.Values.{Name}
@@ -7,19 +7,31 @@ use Rattle.es_model.specs.declared.event.Recording.{Recording}
 use Rattle.es_model.specs.declared.snapshot.Snapshot.{Snapshot}
 use Rattle.es_model.specs.Snapshots.{put_snapshot}
 use Rattle.es_io.specs.Readings.{Readings}
+use Rattle.es_model.specs.declared.memory.CallFault.{CallFault}
+use Rattle.es_model.specs.declared.memory.CallFault.TheVariants as call
 use Rattle.es_process.specs.declared.application.Application.{Application}
+use Rattle.es_process.specs.declared.faults.RunFault.{RunFault}
+use Rattle.es_process.specs.declared.faults.RunFault.TheVariants as fault
+use Rattle.es_process.specs.Faults.{of_call}
 use Rattle.es_process.specs.Answer.{Options, put_each}
 use Rattle.es_process.specs.Contents.{Contents, added, snapped}
 use Rattle.es_process.specs.Leaves.{Tells}
 use Rattle.es_process.specs.SingleThread.{is_among}
 use Rattle.es_process.specs.Standing.{State, HoldsOne, Holds, TellsContents, HoldContents, AreElsewhere, IsKeptElsewhere, AreDistinct, Stays, IsSame, AllStay, names_in, faults_at, count_of, Later, SomeRose}
-use Rattle.es_process.proofs.AmongLemmas.{contains-here, contains-later, contains-among, put-other}
+use Rattle.es_process.proofs.AmongLemmas.{contains-here, contains-cases, contains-none, contains-later, contains-among, put-other}
 use Rattle.es_process.proofs.SetLemmas.{get-same, get-cases, map-set}
 
 pub contains-at : {A : Type 0} (xs : List A) (i : ℕ) (x : A) → slice_get xs i ≡ Some x → Contains xs x
 contains-at [] i x at = absurd (cc at)
 contains-at (y ∷ ys) zero x at = let is : y ≡ x = cc in subst (Contains (y ∷ ys)) is (contains-here y ys)
 contains-at (y ∷ ys) (suc i) x at = contains-later y ys x (contains-at ys i x at)
+
+pub at-contains : {A : Type 0} (xs : List A) (x : A) → Contains xs x → (i : ℕ) × (slice_get xs i ≡ Some x)
+at-contains [] x so = contains-none x so
+at-contains (y ∷ ys) x so = elim (contains-cases y ys x so) [
+  | inl is ↦ (0, ap Some is)
+  | inr behind ↦ (let at = at-contains ys x behind in (suc at.0, at.1))
+]
 
 -- two contents are the same but at one application
 pub record AreAlikeBut (name : Name) (c d : Contents) : Type 0 where
@@ -164,3 +176,8 @@ module _ {R : Type 0} where
 
   pub rose-set : (faults : R → ℕ) (apps : List (Application R)) (i : ℕ) (a b : Application R) → slice_get apps i ≡ Some a → Rose (faults a.recorder) (faults b.recorder) → SomeRose faults apps (slice_set apps i b)
   rose-set faults apps i a b at rose = (i, omega (arith, count-at faults apps i a at, count-at faults (slice_set apps i b) i b (get-same apps i b a at), rose))
+
+-- a call failed where the fault that it is does
+pub call-failed : (f : CallFault) (e : RunFault) → e ≡ of_call f → e ≡ fault.Recorder → f ≡ call.Failed
+call-failed call.Failed e is recorder = refl
+call-failed call.NoMemory e is recorder = let clash : fault.NoMemory ≡ fault.Recorder = sym is ∙ recorder in absurd (cc clash)

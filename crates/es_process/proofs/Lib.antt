@@ -4,10 +4,13 @@ pub mod ConsistentLemmas
 pub mod DecidedLemmas
 pub mod DeclaredLemmas
 pub mod DrainLemmas
+pub mod DrainedLemmas
 pub mod FollowsLemmas
 pub mod HoldsLemmas
 pub mod PairLemmas
+pub mod PairingLemmas
 pub mod PlaceLemmas
+pub mod RunOverLemmas
 pub mod RunReachedLemmas
 pub mod RunSessionLemmas
 pub mod SessionLemmas

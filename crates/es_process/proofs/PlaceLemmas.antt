@@ -1,5 +1,5 @@
 -- An application at its place, and what changes where it does.
-use Rattle.std.proofs.Common.{◌≡◌, inl, inr, ◌⊎◌, ◌≤◌, ◌<◌, ◌+◌, ◌-◌, ℕ, zero, suc, Bool, true, false, IsTrue, List, [], ◌∷◌, ◌++◌, length, Option, Some, None, is_some, Contains, Result, Err, IfOk, IfSome, slice_get, slice_set, get_or, map, cond, refl, sym, ap, ◌∙◌, subst, arith}
+use Rattle.std.proofs.Common.{◌≡◌, inl, inr, ◌⊎◌, ◌≤◌, ◌<◌, ◌+◌, ◌-◌, ℕ, zero, suc, Bool, true, false, IsTrue, List, [], ◌∷◌, ◌++◌, length, Option, Some, None, is_some, Contains, Result, Ok, Err, IfOk, IfSome, slice_get, slice_set, get_or, map, cond, refl, sym, ap, ◌∙◌, subst, arith}
 use Rattle.std.specs.Option.{option_to_list}
 use Rattle.std.specs.Str.{bytes_eq}
 use Rattle.std.proofs.lemmas.Option.{slice_get_within, slice_get-get_or}
@@ -17,27 +17,29 @@ use Rattle.es_model.specs.declared.event.Recording.{Recording}
 use Rattle.es_model.specs.declared.snapshot.Snapshot.{Snapshot}
 use Rattle.es_mapper.specs.Mapped.{event_of}
 use Rattle.es_io.specs.Readings.{Readings, first_reading, later_readings}
+use Rattle.es_decl.specs.Pairs.{pairs_of}
 use Rattle.es_recorder.specs.Held.{put}
 use Rattle.es_recorder.specs.Selections.{select_notifications}
 use Rattle.es_process.specs.declared.application.Application.{Application}
 use Rattle.es_process.specs.declared.application.Processed.{Processed}
-use Rattle.es_process.specs.declared.draining.Pair.{Pair}
+use Rattle.es_process.specs.declared.application.Processed.TheVariants.{Recorded}
+use Rattle.es_process.specs.declared.pairs.Pair.{Pair}
 use Rattle.es_process.specs.declared.faults.RunFault.{RunFault}
 use Rattle.es_process.specs.declared.faults.RunFault.TheVariants as fault
 use Rattle.es_process.specs.Answer.{Options, options, followed, put_each}
 use Rattle.es_process.specs.Contents.{Contents, added}
 use Rattle.es_process.specs.Decision.{logs_of, unreadable}
-use Rattle.es_process.specs.inner.Following.{FindsNext, trying, left_of, turns_left}
-use Rattle.es_process.specs.Drains.{IsPairOf, AreApps}
+use Rattle.es_process.specs.inner.Following.{FindsNext, trying, CameTo, prompted_after, all_left}
+use Rattle.es_process.specs.Drains.{IsPairOf, AreApps, ArePrompted}
 use Rattle.es_process.specs.Leaves.{Tells, Processes, Converts, IsEntry}
-use Rattle.es_process.specs.Standing.{State, Holds, HoldContents, Faulted, AreDistinct, IsNextAfter, IsSame, AllStay, SomeRose, names_in}
+use Rattle.es_process.specs.Standing.{State, Holds, HoldContents, Faulted, AreDistinct, IsNextAfter, Stays, IsSame, AllStay, SomeRose, names_in}
+use Rattle.es_process.specs.SingleThread.{prompt}
 use Rattle.es_process.specs.SystemRules.{rules_of, decide_event, decide_entry}
 use Rattle.es_process.specs.Terms.{terms}
 use Rattle.es_process.proofs.AmongLemmas.{contains-cases, contains-none, is-same, put-here, put-other}
 use Rattle.es_process.proofs.HoldsLemmas.{contains-at, name-at, app-at, AreAlikeBut, alike-same, alike-added, holds-set, holds-same, held-contents, contents-set, all-then, all-set, rose-set, rose-then}
-use Rattle.es_process.proofs.PairLemmas.{finds_next, follows_in, history_in, snapshots_in, next_id, recorded_in, turns_over, entry_unread}
-use Rattle.es_process.proofs.StandingLemmas.{cut_here}
-use Rattle.es_process.proofs.SetLemmas.{get-same}
+use Rattle.es_process.proofs.PairLemmas.{finds_next, follows_in, history_in, snapshots_in, next_id, recorded_in, turns_over, entry_unread, OneRecorded, one_recorded, prompts}
+use Rattle.es_process.proofs.StandingLemmas.{cut_here, came_faulted}
 
 -- a declared application is found by its name
 named-step : (v : Bool) (a : App) (apps : List App) (n : Name) → bytes_eq a.name n ≡ v → (a.name ≡ n → bytes_eq a.name n ≡ true) → (Contains (map (λ (x : App). x.name) apps) n → IsTrue (is_some (app_named apps n)))
@@ -92,19 +94,19 @@ module _ {R : Type 0} where
   pub place-name : (apps : List (Application R)) (i : ℕ) (n : Name) (a : Application R) → slice_get (names_in apps) i ≡ Some n → slice_get apps i ≡ Some a → a.name ≡ n
   place-name apps i n a at there = let same : Some a.name ≡ Some n = sym (name-at apps i a there) ∙ at in (let is : a.name ≡ n = cc same in is)
 
-  -- the turns that are left at a place
-  pub left-same : (apps : List (Application R)) (i j : ℕ) (a b : Application R) → slice_get apps i ≡ Some a → b.turns ≡ a.turns → b.used ≡ a.used → turns_left (slice_set apps i b) j ≡ turns_left apps j
-  left-same [] i j a b at turns used = absurd (cc at)
-  left-same (c ∷ cs) zero zero a b at turns used = let is : c ≡ a = cc at in (λ k. turns k - used k) ∙ ap (λ (x : Application R). x.turns - x.used) (sym is)
-  left-same (c ∷ cs) zero (suc j) a b at turns used = refl
-  left-same (c ∷ cs) (suc i) zero a b at turns used = refl
-  left-same (c ∷ cs) (suc i) (suc j) a b at turns used = left-same cs i j a b at turns used
+  -- the turns that are left
+  pub left-same : (apps : List (Application R)) (i : ℕ) (a b : Application R) → slice_get apps i ≡ Some a → b.turns ≡ a.turns → b.used ≡ a.used → all_left (slice_set apps i b) ≡ all_left apps
+  left-same [] i a b at turns used = absurd (cc at)
+  left-same (c ∷ cs) zero a b at turns used = let is : c ≡ a = cc at in (λ k. turns k - used k + all_left cs) ∙ ap (λ (x : Application R). x.turns - x.used + all_left cs) (sym is)
+  left-same (c ∷ cs) (suc i) a b at turns used = ap (λ n. c.turns - c.used + n) (left-same cs i a b at turns used)
 
-  pub left-fewer : (apps : List (Application R)) (i : ℕ) (a b : Application R) → slice_get apps i ≡ Some a → b.turns ≡ a.turns → b.used ≡ a.used + 1 → a.used < a.turns → turns_left (slice_set apps i b) i < turns_left apps i
-  left-fewer apps i a b at turns used free =
-      let new : turns_left (slice_set apps i b) i ≡ b.turns - b.used = ap left_of (get-same apps i b a at) in
-      let old : turns_left apps i ≡ a.turns - a.used = ap left_of at in
-      omega (arith, new, old, turns, used, free)
+  pub left-fewer : (apps : List (Application R)) (i : ℕ) (a b : Application R) → slice_get apps i ≡ Some a → b.turns ≡ a.turns → b.used ≡ a.used + 1 → a.used < a.turns → all_left (slice_set apps i b) < all_left apps
+  left-fewer [] i a b at turns used free = absurd (cc at)
+  left-fewer (c ∷ cs) zero a b at turns used free =
+      let is : c ≡ a = cc at in
+      let old : c.turns - c.used ≡ a.turns - a.used = ap (λ (x : Application R). x.turns - x.used) is in
+      omega (arith, old, turns, used, free)
+  left-fewer (c ∷ cs) (suc i) a b at turns used free = omega (arith, left-fewer cs i a b at turns used free)
 
   -- the follower of a pair, before and after it processed the next notification
   module _ (apps : List (Application R)) (distinct : AreDistinct (names_in apps)) (p : Pair) (a b : Application R) (placed : slice_get (names_in apps) p.follower ≡ Some p.follower_name) (at : slice_get apps p.follower ≡ Some a) (named : b.name ≡ a.name)
@@ -198,8 +200,8 @@ module _ {R : Type 0} (history : R → Option (List Recording)) (capacity : R �
     pub both-stay : AllStay faults apps (slice_set (slice_set apps i b) j d)
     both-stay = all-then first-stay (all-set (slice_set apps i b) still_distinct j second_app d at_second second.stays)
 
-    pub both-left : (k : ℕ) → turns_left (slice_set (slice_set apps i b) j d) k ≡ turns_left apps k
-    both-left k = left-same (slice_set apps i b) j k second_app d at_second second.stays.turns second.used ∙ left-same apps i k first_app b at_first first.stays.turns first.used
+    pub both-left : all_left (slice_set (slice_set apps i b) j d) ≡ all_left apps
+    both-left = left-same (slice_set apps i b) j second_app d at_second second.stays.turns second.used ∙ left-same apps i first_app b at_first first.stays.turns first.used
 
   pub second-rose : Rose (faults second_app.recorder) (faults d.recorder) → SomeRose faults apps (slice_set (slice_set apps i b) j d)
   second-rose rose = rose-then faults apps (slice_set apps i b) (slice_set (slice_set apps i b) j d) first-stay.later (rose-set faults (slice_set apps i b) j second_app d at_second rose)
@@ -243,6 +245,34 @@ module _ {R : Type 0} (sys : System) (apps : List (Application R)) (p : Pair) (p
         let one = held.each p.follower follower_app at_follower in
         process_told sys o s p (capacity follower_app.recorder) follower_app.turns follower_app.used n.id follower_app.name result new now count later one.room one.turns (one.counted ∙ ap s.used follower-named) follower-named next.1 so
 
+    -- it was recorded, and the follower is still to be tried; who is prompted then may want memory
+    module _ {faults : R → ℕ} (b : Application R) (same : Stays capacity faults follower_app b) (now : Option Readings) (first last : ℕ)
+        (so : Processes p.leader_name n.id (followed (rules_of sys) (options (capacity follower_app.recorder) follower_app.turns) follower_app.name (history_in s p) follower_app.used (logs_of s.contents.histories) p.leader_name n.id (first_reading s.readings)) (history_in s p) (snapshots_in s p) follower_app.used s.readings (Ok (Recorded first last)) (history b.recorder) (snapshots b.recorder) b.used now)
+        (prompted : List Name) (rest : List (Name × Name)) (u : Option (List ℕ)) where
+      abbrev pub IsRecorded : Type 0
+      IsRecorded = OneRecorded (terms (rules_of sys) o) s p prompted rest (Holds history snapshots capacity base o (slice_set apps p.follower b) now) u first last
+
+      is_recorded : IsRecorded
+      is_recorded =
+          one_recorded (terms (rules_of sys) o) s p prompted rest (Holds history snapshots capacity base o (slice_set apps p.follower b) now) u n.event first last (history b.recorder) (snapshots b.recorder) b.used now next.0
+          (processed-told (Ok (Recorded first last)) (history b.recorder) (snapshots b.recorder) b.used now so)
+          (λ r ss added counted read. follower-recorded apps pair.apps.distinct p follower_app b pair.placed.follower at_follower same.name history snapshots base capacity o readings now s r ss held same.room same.turns added counted read)
+
+      pub recorded-came : (queue : List ℕ) → ArePrompted (names_in apps) queue prompted
+          → CameTo (terms (rules_of sys) o) (trying s p prompted rest) (Holds history snapshots capacity base o (slice_set apps p.follower b) now) (names_in apps) (prompted_after p queue first last) u (λ after later. trying after p later rest)
+      recorded-came queue are = (
+        prompt (pairs_of sys.pipes) prompted p.follower_name is_recorded.recording.events,
+        prompts (names_in apps) pair.apps.distinct (pairs_of sys.pipes) p pair.placed.follower pair.leads_on queue prompted are first last (length (log (history_in s p))) is_recorded.recording.events is_recorded.from is_recorded.to,
+        is_recorded.came,
+      )
+
+      pub recorded-starved : Faulted (terms (rules_of sys) o) (trying s p prompted rest) fault.NoMemory (HoldContents history snapshots base (slice_set apps p.follower b)) u u
+      recorded-starved =
+          let later : List Name = prompt (pairs_of sys.pipes) prompted p.follower_name is_recorded.recording.events in
+          came_faulted (terms (rules_of sys) o) (trying s p prompted rest) (Holds history snapshots capacity base o (slice_set apps p.follower b) now) u u (λ after. trying after p later rest) is_recorded.came fault.NoMemory (HoldContents history snapshots base (slice_set apps p.follower b)) u
+          (cut_here (terms (rules_of sys) o) is_recorded.came.state later ((p.leader_name, p.follower_name) ∷ rest) (HoldContents history snapshots base (slice_set apps p.follower b)) u
+          (held-contents history snapshots capacity base o (slice_set apps p.follower b) now is_recorded.came.state is_recorded.came.held))
+
     module _ (prompted : List Name) (rest : List (Name × Name)) (u : Option (List ℕ)) where
       abbrev kept : Contents → Type 0
       kept = HoldContents history snapshots base apps
@@ -260,7 +290,7 @@ module _ {R : Type 0} (sys : System) (apps : List (Application R)) (p : Pair) (p
           let one = held.each p.follower follower_app at_follower in
           let over : o.turns ≤ s.used p.follower_name = omega (arith, so.0, one.turns, one.counted, ap s.used follower-named) in
           let named : f ≡ fault.Turns p.follower_name o.turns = so.1 ∙ (λ i. fault.Turns (follower-named i) (one.turns i)) in
-          subst (λ x. Faulted (terms (rules_of sys) o) (trying s p prompted rest) x kept u u) (sym named) (turns_over (terms (rules_of sys) o) s p pair.pairs pair.placed.apart prompted rest u n.event kept next.0 over still_kept)
+          subst (λ x. Faulted (terms (rules_of sys) o) (trying s p prompted rest) x kept u u) (sym named) (turns_over (terms (rules_of sys) o) s p prompted rest u n.event kept next.0 over still_kept)
 
       -- its leader's entry has no meaning
       undecided : event_of sys n.event ≡ None → (rules_of sys).decide p.follower_name (history_in s p) (logs_of s.contents.histories) (notification p.leader_name (next_id s p)) (first_reading s.readings) ≡ unreadable p.leader_name (next_id s p)
@@ -273,7 +303,7 @@ module _ {R : Type 0} (sys : System) (apps : List (Application R)) (p : Pair) (p
           let one = held.each p.follower follower_app at_follower in
           let left : s.used p.follower_name < o.turns = omega (arith, free, one.turns, one.counted, ap s.used follower-named) in
           let named : fault.Unreadable name id ≡ fault.Unreadable p.leader_name (next_id s p) = λ i. fault.Unreadable (so.1 i) ((so.2 ∙ next.1) i) in
-          subst (λ x. Faulted (terms (rules_of sys) o) (trying s p prompted rest) x kept u u) (sym named) (entry_unread (terms (rules_of sys) o) s p pair.pairs pair.placed.apart prompted rest u n.event kept next.0 left (undecided so.0) still_kept)
+          subst (λ x. Faulted (terms (rules_of sys) o) (trying s p prompted rest) x kept u u) (sym named) (entry_unread (terms (rules_of sys) o) s p prompted rest u n.event kept next.0 left (undecided so.0) still_kept)
       not-converted free fault.NoMemory so = cut_still
       not-converted free fault.Recorder so = absurd so
       not-converted free (fault.Refused app leader id recordings code rule) so = absurd so

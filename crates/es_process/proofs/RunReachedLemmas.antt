@@ -14,6 +14,7 @@ use Rattle.es_model.specs.Values.{Name}
 use Rattle.es_model.proofs.HistoryLemmas.{size-push}
 use Rattle.es_io.specs.Readings.{Readings, first_reading, later_readings}
 use Rattle.es_recorder.specs.Held.{put}
+use Rattle.es_decl.specs.Pairs.{leaders_in}
 use Rattle.es_lines.specs.CommandText.{command_text}
 use Rattle.es_lines.specs.Requests.{Asked, asks, refused}
 use Rattle.es_lines.specs.declared.request.Request.{Request}
@@ -23,12 +24,13 @@ use Rattle.es_lines.specs.declared.ends.End.TheVariants.{Ok}
 use Rattle.es_lines.specs.declared.replies.Reply.{Reply}
 use Rattle.es_lines.specs.declared.replies.Reply.TheVariants.{Long, Sync, Stop}
 use Rattle.es_lines.specs.Texts.{reply_text}
+use Rattle.es_process.specs.declared.ahead.Ahead.{Ahead}
 use Rattle.es_process.specs.Answer.{Options, Answer, says, accepts, takes, ends, request_answer, takes_reading, Followed, adds, stops, followed}
 use Rattle.es_process.specs.Contents.{Contents, added, snapped}
 use Rattle.es_process.specs.Decision.{Rules, logs_of}
 use Rattle.es_process.specs.Questions.{reply_to}
 use Rattle.es_process.specs.Reached.{tracked_of, last_of, IsReached, ahead}
-use Rattle.es_process.specs.SingleThread.{Place, Turn, goes_on, turn_of, line_turn, request_turn, app_turn, answer_turn, readings_after, next_turn, followed_turn, past_line, only_says, adds_and_says, snaps_and_says, does_nothing, prompt, is_among, led_by, leaders_of, Step, snaps, writes, steps_of, only_adds, Run, IsRun, start, left_by}
+use Rattle.es_process.specs.SingleThread.{Place, Turn, goes_on, turn_of, line_turn, request_turn, app_turn, answer_turn, readings_after, next_turn, followed_turn, past_line, only_says, adds_and_says, snaps_and_says, does_nothing, prompt, is_among, led_by, Step, snaps, writes, steps_of, only_adds, Run, IsRun, start, left_by}
 use Rattle.es_process.proofs.AmongLemmas.{contains-here, contains-none, contains-cases, contains-left, contains-last, led-contains, leaders-contains, among-contains, contains-among, put-here, put-other, put-cases, same-or-not, same-name}
 use Rattle.es_process.proofs.DecidedLemmas.{IsDecided, AcceptsCommand, request-accepts, request-ends, followed-adds, followed-stops}
 use Rattle.es_process.proofs.FollowsLemmas.{tracked_in-push}
@@ -39,11 +41,26 @@ passed_by : {A : Type 0} (b : Bool) (x : A) (o : Option A) → (if b then Some x
 passed_by true x o is = absurd (cc is)
 passed_by false x o is = (refl, is)
 
+-- of pairs the first is not ahead, or is
+rest_of : {A : Type 0} (b : Bool) (x : A) (o : Option A) → None ≡ (if b then Some x else None) → (if b then Some x else o) ≡ o
+rest_of true x o is = absurd (cc is)
+rest_of false x o is = refl
+
+first_of_both : {A : Type 0} (b : Bool) (x a : A) (o : Option A) → Some a ≡ (if b then Some x else None) → Some a ≡ (if b then Some x else o)
+first_of_both true x a o is = is
+first_of_both false x a o is = absurd (cc is)
+
+pub ahead-passed : (h : Histories) (p : Name × Name) (pairs : List (Name × Name)) → None ≡ ahead (p ∷ []) h → ahead (p ∷ pairs) h ≡ ahead pairs h
+ahead-passed h p pairs is = rest_of (nat_lt (last_of h p) (tracked_of h p)) (record { app = p.1; leader = p.0; tracked = tracked_of h p; last = last_of h p }) (ahead pairs h) is
+
+pub ahead-first : (h : Histories) (p : Name × Name) (pairs : List (Name × Name)) (a : Ahead) → Some a ≡ ahead (p ∷ []) h → Some a ≡ ahead (p ∷ pairs) h
+ahead-first h p pairs a is = first_of_both (nat_lt (last_of h p) (tracked_of h p)) (record { app = p.1; leader = p.0; tracked = tracked_of h p; last = last_of h p }) a (ahead pairs h) is
+
 -- where nothing is ahead, no follower tracks past its leader's last notification
 none_ahead : (pairs : List (Name × Name)) (h : Histories) → ahead pairs h ≡ None → (p : Name × Name) → Contains pairs p → tracked_of h p ≤ last_of h p
 none_ahead [] h is p so = contains-none p so
 none_ahead (q ∷ pairs) h is p so =
-    let passed = passed_by (nat_lt (last_of h q) (tracked_of h q)) (record { leader = q.0; follower = q.1; tracked = tracked_of h q; last = last_of h q }) (ahead pairs h) is in
+    let passed = passed_by (nat_lt (last_of h q) (tracked_of h q)) (record { app = q.1; leader = q.0; tracked = tracked_of h q; last = last_of h q }) (ahead pairs h) is in
     elim (contains-cases q pairs p so) [
       | inl same ↦ subst (λ r. tracked_of h r ≤ last_of h r) same (ltb-false (last_of h q) (tracked_of h q) passed.0)
       | inr behind ↦ none_ahead pairs h passed.1 p behind
@@ -52,13 +69,13 @@ none_ahead (q ∷ pairs) h is p so =
 -- prompts stay, and one is there for a leader whose log has grown
 prompt_keeps : (pairs : List (Name × Name)) (prompted : List Name) (app : Name) (es : List StoredEvent) (n : Name) → Contains prompted n → Contains (prompt pairs prompted app es) n
 prompt_keeps pairs prompted app [] n so = so
-prompt_keeps pairs prompted app (e ∷ es) n so = elim (is_among app (leaders_of pairs) && not (is_among app prompted)) as (λ b. Contains (if b then prompted ++ app ∷ [] else prompted) n) [
+prompt_keeps pairs prompted app (e ∷ es) n so = elim (is_among app (leaders_in pairs) && not (is_among app prompted)) as (λ b. Contains (if b then prompted ++ app ∷ [] else prompted) n) [
   | true ↦ contains-left prompted (app ∷ []) n so
   | false ↦ so
 ]
 
-prompt_adds : (pairs : List (Name × Name)) (prompted : List Name) (app : Name) (e : StoredEvent) (es : List StoredEvent) → Contains (leaders_of pairs) app → Contains (prompt pairs prompted app (e ∷ es)) app
-prompt_adds pairs prompted app e es leads = here (is_among app (leaders_of pairs)) (is_among app prompted) (contains-among app (leaders_of pairs) leads) (among-contains app prompted)
+prompt_adds : (pairs : List (Name × Name)) (prompted : List Name) (app : Name) (e : StoredEvent) (es : List StoredEvent) → Contains (leaders_in pairs) app → Contains (prompt pairs prompted app (e ∷ es)) app
+prompt_adds pairs prompted app e es leads = here (is_among app (leaders_in pairs)) (is_among app prompted) (contains-among app (leaders_in pairs) leads) (among-contains app prompted)
   where
     here : (a b : Bool) → a ≡ true → (b ≡ true → Contains prompted app) → Contains (if a && not b then prompted ++ app ∷ [] else prompted) app
     here true true is there = there refl
@@ -66,7 +83,7 @@ prompt_adds pairs prompted app e es leads = here (is_among app (leaders_of pairs
     here false b is there = absurd (cc is)
 
 -- a log has grown, or is as long as before
-grown_or_not : (pairs : List (Name × Name)) (prompted : List Name) (app : Name) (h : List Recording) (r : Recording) → Contains (leaders_of pairs) app → (length (log (h ++ r ∷ [])) ≡ length (log h)) ⊎ Contains (prompt pairs prompted app r.events) app
+grown_or_not : (pairs : List (Name × Name)) (prompted : List Name) (app : Name) (h : List Recording) (r : Recording) → Contains (leaders_in pairs) app → (length (log (h ++ r ∷ [])) ≡ length (log h)) ⊎ Contains (prompt pairs prompted app r.events) app
 grown_or_not pairs prompted app h r leads = here r.events refl
   where
     here : (es : List StoredEvent) → r.events ≡ es → (length (log (h ++ r ∷ [])) ≡ length (log h)) ⊎ Contains (prompt pairs prompted app r.events) app
@@ -243,7 +260,7 @@ module _ (rules : Rules) (options : Options) (opening : Contents) where
       -- a pair that had reached its leader, which may be this follower
       reached_caught : (p : Name × Name) → Contains rules.pairs p → last_of at.contents.histories p ≤ tracked_of grown p → IsCaught p
       reached_caught p declared same = elim (same-or-not p.0 app) [
-        | inl leads ↦ elim (grown_or_not rules.pairs at.prompted app (at.contents.histories app) r (subst (Contains (leaders_of rules.pairs)) leads (leaders-contains rules.pairs p declared))) [
+        | inl leads ↦ elim (grown_or_not rules.pairs at.prompted app (at.contents.histories app) r (subst (Contains (leaders_in rules.pairs)) leads (leaders-contains rules.pairs p declared))) [
           | inl alike ↦ let still : last_of grown p ≡ last_of at.contents.histories p = ap (λ n. length (log (grown n))) leads ∙ ap (λ x. length (log x)) (put-here at.contents.histories app (at.contents.histories app ++ r ∷ [])) ∙ alike ∙ ap (λ n. length (log (at.contents.histories n))) (sym leads) in
               inl (omega (arith, still, same))
           | inr prompted ↦ inr (inr (subst (Contains (prompt rules.pairs at.prompted app r.events)) (sym leads) prompted))
@@ -325,12 +342,19 @@ module _ (rules : Rules) (options : Options) (opening : Contents) where
   turn-chases done at so [] (leader ∷ prompted) is prompts = idles_chases done at so prompted (led_by rules.pairs leader) (taken_caught done at so leader prompted is prompts)
   turn-chases done at so [] [] is prompts = line_chases done at so is prompts at.lines
 
+  -- a place at which all leaders are prompted
+  pub leaders-chase : (readings : Readings) (used : Name → ℕ) (lines : List Line) (k : ℕ) → Chases [] (record { contents = opening; readings = readings; used = used; prompted = leaders_in rules.pairs; pending = []; lines = lines; answered = k })
+  leaders-chase readings used lines k = record { left = refl; behind = λ fair. none_ahead rules.pairs opening.histories fair; caught = λ p declared. inr (inr (leaders-contains rules.pairs p declared)) }
+
   pub start-chases : (readings : Readings) (lines : List Line) → Chases [] (start rules opening readings lines)
-  start-chases readings lines = record { left = refl; behind = λ fair. none_ahead rules.pairs opening.histories fair; caught = λ p declared. inr (inr (leaders-contains rules.pairs p declared)) }
+  start-chases readings lines = leaders-chase readings (λ app. 0) lines 0
+
+  pub reached-from : (at : Place) (d : Run) → Chases [] at → IsRun rules options opening.histories at d → EndsReached d.steps d.end
+  reached-from at d chases run =
+      run-ends rules options opening.histories Chases Nothing EndsReached (λ done now so. tt) (λ done now so. turn-chases done now so now.pending now.prompted refl refl) at d chases run
 
   whole_reached : (readings : Readings) (lines : List Line) (d : Run) → IsRun rules options opening.histories (start rules opening readings lines) d → EndsReached d.steps d.end
-  whole_reached readings lines d run =
-      run-ends rules options opening.histories Chases Nothing EndsReached (λ done at so. tt) (λ done at so. turn-chases done at so at.pending at.prompted refl refl) (start rules opening readings lines) d (start-chases readings lines) run
+  whole_reached readings lines d run = reached-from (start rules opening readings lines) d (start-chases readings lines) run
 
   -- all steps of a run that ends well, from opening.histories of which none is ahead, leave each follower at its leaders' last notifications
   pub run-reached : (readings : Readings) (lines : List Line) (d : Run) → IsRun rules options opening.histories (start rules opening readings lines) d → ahead rules.pairs opening.histories ≡ None

@@ -3,6 +3,7 @@ use Rattle.std.specs.Prelude.{◌≡◌, ℕ, nat_lt, List, [], ◌∷◌, lengt
 use Rattle.es_model.specs.History.{Histories, log}
 use Rattle.es_model.specs.Tracking.{tracked_in}
 use Rattle.es_model.specs.Values.{Name}
+use Rattle.es_process.specs.declared.ahead.Ahead.{Ahead}
 
 -- the last notification of a leader that a follower tracks, and the last one that there is
 abbrev pub tracked_of : Histories → Name × Name → ℕ
@@ -15,17 +16,10 @@ last_of histories p = length (log (histories p.0))
 abbrev pub IsReached : List (Name × Name) → Histories → Type 0
 IsReached pairs histories = (p : Name × Name) → Contains pairs p → tracked_of histories p ≡ last_of histories p
 
--- a pair whose follower tracks a notification past its leader's last one, with both numbers
-pub record Ahead : Type 0 where
-  pub leader : Name
-  pub follower : Name
-  pub tracked : ℕ
-  pub last : ℕ
-
--- the first such pair, in the order of pairs
+-- the first pair whose follower tracks a notification past its leader's last one, in the order of pairs, with both numbers
 abbrev pub ahead : List (Name × Name) → Histories → Option Ahead
 ahead [] histories = None
 ahead (p ∷ pairs) histories =
     if nat_lt (last_of histories p) (tracked_of histories p)
-    then Some (record { leader = p.0; follower = p.1; tracked = tracked_of histories p; last = last_of histories p })
+    then Some (record { app = p.1; leader = p.0; tracked = tracked_of histories p; last = last_of histories p })
     else ahead pairs histories

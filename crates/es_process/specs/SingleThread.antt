@@ -11,6 +11,7 @@ use Rattle.es_model.specs.Lines.{Line, text, long, over}
 use Rattle.es_model.specs.Tracking.{tracked_in}
 use Rattle.es_model.specs.Values.{Name}
 use Rattle.es_io.specs.Readings.{Readings, first_reading, later_readings}
+use Rattle.es_decl.specs.Pairs.{leaders_in}
 use Rattle.es_recorder.specs.Held.{put}
 use Rattle.es_lines.specs.Requests.{Asked, asks, refused}
 use Rattle.es_lines.specs.declared.request.Request.{Request}
@@ -19,10 +20,13 @@ use Rattle.es_lines.specs.declared.replies.Reply.{Reply}
 use Rattle.es_lines.specs.declared.replies.Reply.TheVariants.{Long, Sync, Stop}
 use Rattle.es_lines.specs.declared.ends.End.{End}
 use Rattle.es_lines.specs.declared.ends.End.TheVariants.{Ok, Over}
+use Rattle.es_lines.specs.declared.ends.End.TheVariants as end
 use Rattle.es_process.specs.Answer.{Options, Answer, says, accepts, takes, ends, request_answer, takes_reading, Followed, adds, stops, followed}
 use Rattle.es_process.specs.Contents.{Contents, recorded, snapped, added}
 use Rattle.es_process.specs.Decision.{Rules, logs_of}
 use Rattle.es_process.specs.Questions.{reply_to}
+use Rattle.es_process.specs.Reached.{ahead}
+use Rattle.es_process.specs.declared.ahead.Ahead.{Ahead}
 use Rattle.es_lines.specs.Texts.{reply_text}
 
 -- one step of a run: a recording is added to an application's history, or a snapshot is put beside it, or a text is written as a line
@@ -156,15 +160,10 @@ led_by pairs leader = filter (λ p. bytes_eq p.0 leader) pairs
 abbrev pub is_among : Name → List Name → Bool
 is_among name names = list_any (λ n. bytes_eq n name) names
 
--- the leaders, in the order of pairs, each at its first place only
-abbrev pub leaders_of : List (Name × Name) → List Name
-leaders_of [] = []
-leaders_of (p ∷ pairs) = p.0 ∷ filter (λ n. not (bytes_eq n p.0)) (leaders_of pairs)
-
 -- a follower whose recording has an event, and which leads, is prompted after the others, unless it is prompted already
 abbrev pub prompt : List (Name × Name) → List Name → Name → List StoredEvent → List Name
 prompt pairs prompted app [] = prompted
-prompt pairs prompted app (e ∷ es) = if is_among app (leaders_of pairs) && not (is_among app prompted) then prompted ++ app ∷ [] else prompted
+prompt pairs prompted app (e ∷ es) = if is_among app (leaders_in pairs) && not (is_among app prompted) then prompted ++ app ∷ [] else prompted
 
 -- the turn that records a notification; it takes one reading of the clock where the run goes on
 abbrev pub followed_turn : Rules → Place → Name → Followed → Turn
@@ -230,13 +229,13 @@ pub record HasOneRun (rules : Rules) (options : Options) (openings : Histories) 
   pub is : IsRun rules options openings at run
   pub only : (other : Run) → IsRun rules options openings at other → other ≡ run
 
--- where a run begins: with a drain, in which all leaders are prompted; no follower may be ahead of its leader at the opening, as none is over empty histories
+-- where a run begins: with a drain, in which all leaders are prompted
 abbrev pub start : Rules → Contents → Readings → List Line → Place
 start rules opening readings lines = record {
   contents = opening;
   readings = readings;
   used = λ app. 0;
-  prompted = leaders_of rules.pairs;
+  prompted = leaders_in rules.pairs;
   pending = [];
   lines = lines;
   answered = 0;
@@ -247,3 +246,21 @@ pub record Goes (rules : Rules) (options : Options) (openings : Histories) (at n
   pub turns : ℕ
   pub go : (k : ℕ) → run_within (turns + k) rules options openings at ≡ option_map (after steps) (run_within k rules options openings now)
   pub left : left_by steps at.contents ≡ now.contents
+
+-- the end of a run at whose opening a follower is ahead of its leader
+abbrev pub ahead_end : Ahead → End
+ahead_end a = end.Ahead a.app a.leader a.tracked a.last
+
+-- the run over an opening: where a follower is ahead of its leader there, it ends at once; else it is the run from its start
+abbrev pub IsRunUnless : Option Ahead → Rules → Options → Contents → Readings → List Line → Run → Type 0
+IsRunUnless None rules options opening readings lines run = IsRun rules options opening.histories (start rules opening readings lines) run
+IsRunUnless (Some a) rules options opening readings lines run = run ≡ record { steps = []; end = ahead_end a }
+
+abbrev pub IsRunOver : Rules → Options → Contents → Readings → List Line → Run → Type 0
+IsRunOver rules options opening readings lines run = IsRunUnless (ahead rules.pairs opening.histories) rules options opening readings lines run
+
+-- there is exactly one run over an opening
+pub record HasOneRunOver (rules : Rules) (options : Options) (opening : Contents) (readings : Readings) (lines : List Line) : Type 0 where
+  pub run : Run
+  pub is : IsRunOver rules options opening readings lines run
+  pub only : (other : Run) → IsRunOver rules options opening readings lines other → other ≡ run

@@ -493,14 +493,22 @@ impl<R: ProcessRecorder> Application<R> {
     }
 
     /// The greatest notification id of a leader that it tracks.
-    pub fn tracked(&mut self, leader: &Text) -> Result<u64, RunFault>
+    pub fn tracked(&mut self, leader: &Text) -> Result<u64, CallFault>
         ensures value { IfSome (R.history (recorder_of self.old)) (λ h. IfOk result (λ id. id ≡ tracked_in h leader.now)) }
         ensures small { IfOk result (λ id. id < 2 ^ 62) }
-        ensures faults { IfErr result MayFailToRead }
         ensures same { IsSame R.history R.capacity R.snapshots R.faults self.old self.new }
-        ensures failed { IsErrOf result RunFault.Recorder → Rose (R.faults (recorder_of self.old)) (R.faults (recorder_of self.new)) }
+        ensures cause { CallHasCause (R.faults (recorder_of self.old)) (R.faults (recorder_of self.new)) result }
     {
-        Ok(self.recorder.max_tracking_id(leader)?)
+        self.recorder.max_tracking_id(leader)
+    }
+
+    /// The id of its last notification, or 0 where it has none.
+    pub fn last_notification(&mut self) -> Result<u64, CallFault>
+        ensures value { IfSome (R.history (recorder_of self.old)) (λ h. IfOk result (λ id. id ≡ length (log h))) }
+        ensures same { IsSame R.history R.capacity R.snapshots R.faults self.old self.new }
+        ensures cause { CallHasCause (R.faults (recorder_of self.old)) (R.faults (recorder_of self.new)) result }
+    {
+        self.recorder.max_notification_id()
     }
 
     /// Its notification after one that is tracked, if there is one.

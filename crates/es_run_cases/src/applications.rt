@@ -154,8 +154,8 @@ fn process(
     }
 }
 
-// What a line asks.
-fn request(alloc: Global, sys: &System, line: &str) -> anyhow::Result<Request>
+/// What a line asks.
+pub(crate) fn request(alloc: Global, sys: &System, line: &str) -> anyhow::Result<Request>
     ensures { IfOk result (λ r. request_in sys.now line.now ≡ asks r) }
 {
     match read_line(alloc, sys, line.as_bytes()) {
@@ -174,13 +174,16 @@ fn may_ask(name: &Text, request: &Request) -> bool
     }
 }
 
-// A reply as it is written.
+/// A reply as it is written.
+pub(crate) fn reply_told(alloc: Global, reply: &Reply) -> anyhow::Result<Value> {
+    let text = reply_text(alloc, reply)?;
+    Ok(Value::from_str(alloc, str::from_utf8(text.as_slice())?)?)
+}
+
+// A reply, or why there is none.
 fn replied(alloc: Global, answer: &Result<Reply, RunFault>) -> anyhow::Result<Value> {
     match answer {
-        Ok(reply) => {
-            let text = reply_text(alloc, reply)?;
-            Ok(Value::from_str(alloc, str::from_utf8(text.as_slice())?)?)
-        }
+        Ok(reply) => reply_told(alloc, reply),
         Err(failed) => fault(alloc, failed),
     }
 }
@@ -227,7 +230,7 @@ fn tracked(
 ) -> anyhow::Result<Value> {
     match app.tracked(leader) {
         Ok(id) => Ok(Value::from(id)),
-        Err(failed) => fault(alloc, &failed),
+        Err(failed) => told::failed(alloc, &failed),
     }
 }
 

@@ -40,6 +40,24 @@ impl FusedStores {
         })
     }
 
+    /// Puts the recorder of one application of these stores behind a fuse.
+    pub(crate) fn behind(
+        alloc: Global,
+        inner: MemoryStores,
+        app: &str,
+        calls: u64,
+        after: bool,
+    ) -> anyhow::Result<FusedStores> {
+        let app = Text::from_str(alloc, app)?;
+        let mut fuses = Vec::new(alloc);
+        fuses.push(Fuse { app, calls, after })?;
+        Ok(FusedStores {
+            inner,
+            fuses,
+            closed: Faults::new(Calls::new(alloc)),
+        })
+    }
+
     /// The stores without the fuses.
     pub(crate) fn into_inner(self) -> MemoryStores {
         let FusedStores {

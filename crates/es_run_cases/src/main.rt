@@ -6,8 +6,11 @@ mod applications;
 mod drains;
 mod fused_stores;
 mod recorders;
+mod runners;
 mod runs;
+mod several;
 mod snapshots;
+mod stops;
 mod stores;
 mod systems;
 mod verdicts;
@@ -36,8 +39,12 @@ impl Suite for Cases {
             "drains.jsonl" => drains::answer(alloc, base, case),
             "formed.jsonl" => stores::formed(alloc, case),
             "fuses.jsonl" | "recorders.jsonl" => recorders::answer(alloc, case),
-            "faults.jsonl" | "lines.jsonl" | "runs.jsonl" => runs::answer(alloc, base, case),
+            "chains.jsonl" | "faults.jsonl" | "lines.jsonl" | "openings.jsonl" | "runs.jsonl" => {
+                runs::answer(alloc, base, case)
+            }
+            "runners.jsonl" => runners::answer(alloc, base, case),
             "statuses.jsonl" => runs::code_of(case),
+            "stops.jsonl" => stops::answer(alloc, base, case),
             "stores.jsonl" => stores::answer(alloc, case),
             _ => Err(anyhow::anyhow!("no kind of cases")),
         }

@@ -17,9 +17,9 @@ use es_top::{Status, evsys_single};
 use serde_json::Value;
 use std::alloc::Global;
 
-// The objects of a run but for its stores.
+/// The objects of a run but for its stores.
 #[derive(Drop)]
-struct Objects {
+pub(crate) struct Objects {
     words: Vec<String>,
     system: MemoryDocument,
     lines: MemorySource,
@@ -94,7 +94,8 @@ fn out(alloc: Global, case: &Value) -> anyhow::Result<MemorySink> {
     Ok(MemorySink::new(alloc, room, failing)?)
 }
 
-fn objects_of(alloc: Global, base: &Value, case: &Value) -> anyhow::Result<Objects> {
+/// The objects of a case.
+pub(crate) fn objects_of(alloc: Global, base: &Value, case: &Value) -> anyhow::Result<Objects> {
     let words = words_of(alloc, case)?;
     let system = system(alloc, base, case)?;
     let lines = lines(alloc, case)?;
@@ -109,8 +110,8 @@ fn objects_of(alloc: Global, base: &Value, case: &Value) -> anyhow::Result<Objec
     })
 }
 
-// The one call of the whole program.
-fn run<M: Stores>(alloc: Global, objects: &mut Objects, stores: &mut M) -> Status {
+/// The one call of the whole program.
+pub(crate) fn run<M: Stores>(alloc: Global, objects: &mut Objects, stores: &mut M) -> Status {
     evsys_single(
         alloc,
         objects.words.as_slice(),
@@ -157,8 +158,8 @@ fn put_held(
     Ok(true)
 }
 
-// Tells what the stores hold of some applications, and the snapshots of those that have any.
-fn put_stores(
+/// Tells what the stores hold of some applications, and the snapshots of those that have any.
+pub(crate) fn put_stores(
     alloc: Global,
     told: &mut Members,
     stores: &mut MemoryStores,
@@ -199,7 +200,6 @@ fn end_of(word: &str) -> Option<End> {
         "input" => Some(End::Input),
         "recorder" => Some(End::Recorder),
         "over" => Some(End::Over),
-        "not-built" => Some(End::NotBuilt),
         _ => None,
     }
 }

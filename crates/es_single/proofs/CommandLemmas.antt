@@ -1,16 +1,19 @@
 -- What answering a line leaves of the applications.
-use Rattle.std.proofs.Common.{◌≡◌, ◌<◌, ◌+◌, ◌++◌, ℕ, zero, suc, Bool, true, false, not, ◌||◌, List, [], ◌∷◌, length, get_or, slice_get, slice_set, if◌then◌else◌, Option, Some, Result, Ok, Err, refl, sym, ap, ◌∙◌, subst, arith}
+use Rattle.std.proofs.Common.{◌≡◌, ◌<◌, ◌+◌, ◌++◌, ℕ, zero, suc, Bool, IsTrue, true, false, not, ◌||◌, List, [], ◌∷◌, length, get_or, slice_get, slice_set, if◌then◌else◌, Contains, Option, Some, None, is_some, Result, Ok, Err, refl, sym, ap, ◌∙◌, subst, arith}
 use Rattle.std.specs.List.{position_or_len}
 use Rattle.std.specs.Str.{bytes_eq}
+use Rattle.es_model.specs.declared.declaration.App.{App}
 use Rattle.es_model.specs.declared.declaration.System.{System}
 use Rattle.es_model.specs.declared.event.Recording.{Recording}
 use Rattle.es_model.specs.declared.snapshot.Snapshot.{Snapshot as SnapshotOf}
-use Rattle.es_model.specs.Lines.{text}
+use Rattle.es_model.specs.Declaration.{app_named}
 use Rattle.es_model.specs.Snapshots.{put_snapshot}
 use Rattle.es_model.specs.Values.{Name}
 use Rattle.es_io.specs.Readings.{Readings, first_reading}
+use Rattle.es_decl.proofs.CheckedSystemLemmas.{declared-name}
+use Rattle.es_domain.specs.declared.command.Command.{Command}
 use Rattle.es_lines.specs.CommandText.{command_text}
-use Rattle.es_lines.specs.Requests.{asks, request_in, app_asked, IsApp, IsOfSystem}
+use Rattle.es_lines.specs.Requests.{asks, request_in, app_asked, has_class, IsApp, IsDeclared, IsOfSystem}
 use Rattle.es_lines.specs.declared.request.Request.{Request}
 use Rattle.es_lines.specs.declared.request.Request.TheVariants.{Do, Get, Log, Tracking, Snapshot, Sync, Stop as StopOf}
 use Rattle.es_lines.specs.declared.replies.Reply.{Reply}
@@ -18,25 +21,23 @@ use Rattle.es_lines.proofs.CanonicalLemmas.{canonical}
 use Rattle.es_lines.proofs.RequestLemmas.{of-system}
 use Rattle.es_process.specs.declared.application.Application.{Application}
 use Rattle.es_process.specs.declared.faults.RunFault.{RunFault}
-use Rattle.es_process.specs.declared.draining.Pair.{Pair}
 use Rattle.es_process.specs.Answer.{Options, Answer, put_each, request_answer, takes_reading}
 use Rattle.es_process.specs.Contents.{Contents, added, snapped}
 use Rattle.es_process.specs.Decision.{logs_of}
-use Rattle.es_process.specs.Drains.{IsOnlyPair}
+use Rattle.es_process.specs.Drains.{AreApps}
 use Rattle.es_process.specs.Leaves.{MayAsk, Tells, Leaves}
 use Rattle.es_process.specs.SingleThread.{is_among, readings_after}
-use Rattle.es_process.specs.Standing.{State, HoldsOne, Holds, HoldContents, AreDistinct, Faulted, names_in}
+use Rattle.es_process.specs.Standing.{State, HoldsOne, Holds, HoldContents, AreDistinct, names_in}
 use Rattle.es_process.specs.SystemRules.{rules_of}
 use Rattle.es_process.specs.Terms.{terms}
-use Rattle.es_process.proofs.AmongLemmas.{put-here, same-name}
+use Rattle.es_process.proofs.AmongLemmas.{contains-among, put-here, same-name}
 use Rattle.es_process.proofs.HoldsLemmas.{AreAlikeBut, alike-same, alike-added, alike-snapped, app-at, held-contents, contents-set, holds-set}
-use Rattle.es_single.specs.declared.serve.Stop.{Stop}
-use Rattle.es_single.specs.inner.Serves.{IsAsked, prompted_by, RepliesAndDrains, AnswersLine, at_line}
-use Rattle.es_single.proofs.CountLemmas.{listed-among, declared-app}
-use Rattle.es_single.proofs.ServesLemmas.{line_answered, line_failed}
+use Rattle.es_single.specs.Answers.{Answers, Replies, IsAsked}
+use Rattle.es_single.specs.inner.Prompts.{prompted_by}
+use Rattle.es_single.proofs.AnswerLemmas.{line_answered, line_failed}
 
 -- the item at a place of a list
-pub get-below : {A : Type 0} (xs : List A) (i : ℕ) (x : A) → slice_get xs i ≡ Some x → i < length xs
+get-below : {A : Type 0} (xs : List A) (i : ℕ) (x : A) → slice_get xs i ≡ Some x → i < length xs
 get-below [] i x there = absurd (cc there)
 get-below (y ∷ ys) zero x there = omega arith
 get-below (y ∷ ys) (suc i) x there = omega (arith, get-below ys i x there)
@@ -46,26 +47,23 @@ get-at [] i x d there = absurd (cc there)
 get-at (y ∷ ys) zero x d there = let is : y ≡ x = cc in is
 get-at (y ∷ ys) (suc i) x d there = get-at ys i x d there
 
-pub get-there : {A : Type 0} (xs : List A) (i : ℕ) (d : A) → i < length xs → slice_get xs i ≡ Some (get_or xs i d)
-get-there [] i d below = absurd (omega (arith, below))
-get-there (y ∷ ys) zero d below = refl
-get-there (y ∷ ys) (suc i) d below = get-there ys i d (omega (arith, below))
-
 -- the place of a name that is among the applications'
 position-step : (b : Bool) (name n : Name) (ns : List Name) (place : ℕ) → (b ≡ true → n ≡ name) → (is_among name ns ≡ true → slice_get ns place ≡ Some name) → (b || is_among name ns) ≡ true
     → slice_get (n ∷ ns) (if not b then 1 + place else 0) ≡ Some name
 position-step true name n ns place same later is = ap Some (same refl)
 position-step false name n ns place same later is = let next : 1 + place ≡ suc place = omega arith in ap (slice_get (n ∷ ns)) next ∙ later is
 
-pub position-there : {R : Type 0} (apps : List (Application R)) (name : Name) → is_among name (names_in apps) ≡ true → slice_get (names_in apps) (position_or_len (λ a. bytes_eq a.name name) apps) ≡ Some name
+position-there : {R : Type 0} (apps : List (Application R)) (name : Name) → is_among name (names_in apps) ≡ true → slice_get (names_in apps) (position_or_len (λ a. bytes_eq a.name name) apps) ≡ Some name
 position-there [] name is = absurd (cc is)
 position-there (a ∷ apps) name is =
     position-step (bytes_eq a.name name) name a.name (names_in apps) (position_or_len (λ b. bytes_eq b.name name) apps) (same-name a.name name) (position-there apps name) is
 
-pub place-there : {R : Type 0} (sys : System) (apps : List (Application R)) (p : Option Pair) (name : Name) (place : ℕ) → IsOnlyPair sys (names_in apps) p → IsApp sys name
-    → place ≡ position_or_len (λ a. bytes_eq a.name name) apps → slice_get (names_in apps) place ≡ Some name
-place-there sys apps p name place only declared is =
-    ap (slice_get (names_in apps)) is ∙ position-there apps name (listed-among sys (names_in apps) p name only declared)
+-- a declared application stands at its place
+pub place-there : {R : Type 0} (sys : System) (apps : List (Application R)) (name : Name) (place : ℕ) → AreApps sys (names_in apps) → IsApp sys name → place ≡ position_or_len (λ a. bytes_eq a.name name) apps
+    → slice_get (names_in apps) place ≡ Some name
+place-there sys apps name place are declared is =
+    ap (slice_get (names_in apps)) is
+    ∙ position-there apps name (contains-among name (names_in apps) (subst (λ (ns : List Name). Contains ns name) (sym are.named) (declared-name sys.apps name declared)))
 
 pub found-below : {R : Type 0} (apps : List (Application R)) (i : ℕ) (name : Name) → slice_get (names_in apps) i ≡ Some name → i < length apps
 found-below apps i name there = let a = app-at apps i name there in get-below apps i a.0 a.1
@@ -103,13 +101,12 @@ module _ {R : Type 0} (history : R → Option (List Recording)) (snapshots : R �
       (so (s.contents.histories a.name) (s.contents.snapshots a.name) s.readings one.told one.told_snapshots held.clock)
 
   -- it gave a reply
-  pub request_replied : (r : Request) (now : Option Readings) (told : Reply) (prompted : List Name) (H : State → Type 0) (L : Contents → Type 0) (w : Option (List ℕ)) (result : Result (Unit {0}) Stop)
-      → request_in sys line ≡ asks r → app_asked r ≡ Some a.name → prompted ≡ a.name ∷ [] → b.turns ≡ a.turns → b.used ≡ a.used → capacity b.recorder ≡ capacity a.recorder → Left r (Ok told) → Read r now
-      → ((next : State) → Holds history snapshots capacity base o (slice_set apps i b) now next → RepliesAndDrains (terms (rules_of sys) o) next H (prompted_by told prompted) told L u w result)
-      → AnswersLine (terms (rules_of sys) o) s H (text line) L u w result
-  request_replied r now told prompted H L w result asked about whom turns used room leaves reading replied =
-      line_answered sys o s H L line a.name r asked about u w told result (history b.recorder) (snapshots b.recorder) (answered-as r (Ok told) leaves)
-      (λ next tells alike rs n. subst (λ names. RepliesAndDrains (terms (rules_of sys) o) next H (prompted_by told names) told L u w result) whom (replied next (holds-set apps distinct i a b at named history snapshots capacity base o readings now s next held
+  pub request_replied : (r : Request) (now : Option Readings) (told : Reply) (H : State → List Name → Type 0)
+      → app_asked r ≡ Some a.name → b.turns ≡ a.turns → b.used ≡ a.used → capacity b.recorder ≡ capacity a.recorder → Left r (Ok told) → Read r now
+      → ((next : State) → Holds history snapshots capacity base o (slice_set apps i b) now next → H next (prompted_by told a.name)) → Replies (terms (rules_of sys) o) s r told H
+  request_replied r now told H about turns used room leaves reading replied =
+      line_answered sys o s a.name r about H told (history b.recorder) (snapshots b.recorder) (answered-as r (Ok told) leaves)
+      (λ next tells alike rs n. replied next (holds-set apps distinct i a b at named history snapshots capacity base o readings now s next held
       (record {
         told = tells.recordings ∙ ap (λ m. Some (next.contents.histories m)) (sym named);
         told_snapshots = tells.snapshots ∙ ap (λ m. Some (next.contents.snapshots m)) (sym named);
@@ -117,18 +114,18 @@ module _ {R : Type 0} (history : R → Option (List Recording)) (snapshots : R �
         turns = turns ∙ one.turns;
         counted = used ∙ one.counted ∙ ap (λ (f : Name → ℕ). f a.name) (sym n) ∙ ap next.used (sym named);
       })
-      alike (λ m other. ap (λ (f : Name → ℕ). f m) n) (reading (s.contents.histories a.name) (s.contents.snapshots a.name) s.readings one.told one.told_snapshots held.clock ∙ ap Some (sym rs)))))
+      alike (λ m other. ap (λ (f : Name → ℕ). f m) n) (reading (s.contents.histories a.name) (s.contents.snapshots a.name) s.readings one.told one.told_snapshots held.clock ∙ ap Some (sym rs))))
 
   -- what all applications keep, by what it keeps
   kept-now : (c : Contents) → Tells (c.histories a.name) (c.snapshots a.name) (history b.recorder) (snapshots b.recorder) → AreAlikeBut a.name s.contents c → HoldContents history snapshots base (slice_set apps i b) c
   kept-now c tells alike = contents-set apps distinct i a b at named history snapshots base s.contents c (held-contents history snapshots capacity base o apps readings s held) tells alike
 
   -- it failed
-  pub request_failed : (r : Request) (w : Option (List ℕ)) (f : RunFault) → request_in sys line ≡ asks r → app_asked r ≡ Some a.name → Left r (Err f) → w ≡ u
-      → Faulted (terms (rules_of sys) o) (at_line s (text line)) f (HoldContents history snapshots base (slice_set apps i b)) u w
-  request_failed r w f asked about leaves still =
+  pub request_failed : (r : Request) (f : RunFault) (H : State → List Name → Type 0) → request_in sys line ≡ asks r → app_asked r ≡ Some a.name → Left r (Err f)
+      → Answers (terms (rules_of sys) o) s line r H (HoldContents history snapshots base (slice_set apps i b)) u (Err f)
+  request_failed r f H asked about leaves =
       let c = s.contents in
-      line_failed sys o s (λ x. Unit {0}) (HoldContents history snapshots base (slice_set apps i b)) line a.name r asked about u w (history b.recorder) (snapshots b.recorder)
+      line_failed sys o s a.name r about (HoldContents history snapshots base (slice_set apps i b)) line asked u (history b.recorder) (snapshots b.recorder)
       (λ same. kept-now c same (alike-same a.name c))
       (λ more ss tells. kept-now (added c a.name more ss)
       (record {
@@ -138,7 +135,15 @@ module _ {R : Type 0} (history : R → Option (List Recording)) (snapshots : R �
       (alike-added a.name c more ss))
       (λ sn tells. kept-now (snapped c a.name sn)
       (record { recordings = tells.recordings; snapshots = tells.snapshots ∙ ap Some (sym (put-here c.snapshots a.name (put_snapshot (c.snapshots a.name) sn))) }) (alike-snapped a.name c sn))
-      still f (answered-as r (Err f) leaves)
+      f (answered-as r (Err f) leaves)
+
+-- an application that has a class is declared
+has-app : (o : Option App) (class : Name) → IsTrue (has_class o class) → IsTrue (is_some o)
+has-app None class has = absurd (cc has)
+has-app (Some a) class has = refl
+
+declared-app : (sys : System) (name : Name) (c : Command) → IsDeclared sys name c → IsApp sys name
+declared-app sys name c declared = has-app (app_named sys.apps name) c.class declared.listed
 
 -- the application of which a line asks something is declared, and has the command that it asks for
 named-app : (sys : System) (r : Request) (app : Name) → app_asked r ≡ Some app → IsOfSystem sys r → IsApp sys app

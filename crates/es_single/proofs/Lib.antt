@@ -1,8 +1,3 @@
+pub mod AnswerLemmas
 pub mod CommandLemmas
-pub mod CountLemmas
-pub mod InputLemmas
-pub mod LoopLemmas
-pub mod RunLemmas
-pub mod ServesLemmas
-pub mod StaysLemmas
-pub mod TakenLemmas
+pub mod RunnerLemmas

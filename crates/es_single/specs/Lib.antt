@@ -1,5 +1,3 @@
-pub mod Ends
-pub mod Limits
-pub mod Runs
-pub mod Traced
+pub mod Answers
+pub mod Runner
 pub mod inner

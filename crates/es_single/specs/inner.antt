@@ -1,5 +1,1 @@
-pub mod Counts
-pub mod LinesTraced
-pub mod Serves
-pub mod Stays
-pub mod Taken
+pub mod Prompts

@@ -1,11 +1,9 @@
-//! The run on one thread over opened applications: it drains all leaders, answers the lines of a source one by one
-//! on a sink, and drains after each accepted one.
+//! The run on one thread over opened applications: a runner drains all leaders, answers what a line asks, and drains after
+//! an accepted command.
 //!
-//! The definitions that contracts cite are in `specs/`: what first steps of the run, or all of them, leave, by how it ended.
+//! The definitions that contracts cite are in `specs/`: what a runner has, and what its calls leave.
 #![tactic(auto)]
 
-mod running;
-mod serve;
+mod runner;
 
-pub use running::run;
-pub use serve::write_line;
+pub use runner::SingleRunner;

@@ -148,7 +148,6 @@ fn bare_end(name: &str) -> Option<End> {
         "input" => Some(End::Input),
         "recorder" => Some(End::Recorder),
         "over" => Some(End::Over),
-        "not-built" => Some(End::NotBuilt),
         _ => None,
     }
 }
@@ -188,6 +187,19 @@ fn turns(alloc: Global, case: &Value) -> anyhow::Result<End> {
     Ok(End::Turns { app, turns })
 }
 
+fn ahead(alloc: Global, case: &Value) -> anyhow::Result<End> {
+    let tracked = given::number(case, "tracked")?;
+    let last = given::number(case, "last")?;
+    let app = given::owned(alloc, case, "app")?;
+    let leader = given::owned(alloc, case, "leader")?;
+    Ok(End::Ahead {
+        app,
+        leader,
+        tracked,
+        last,
+    })
+}
+
 fn unreadable(alloc: Global, case: &Value) -> anyhow::Result<End> {
     let id = given::number(case, "id")?;
     let app = given::owned(alloc, case, "app")?;
@@ -212,6 +224,7 @@ fn end(alloc: Global, name: &str, case: &Value) -> anyhow::Result<End> {
         "declaration" => declaration(alloc, case),
         "refused" => refused(alloc, case),
         "turns" => turns(alloc, case),
+        "ahead" => ahead(alloc, case),
         "unreadable" => unreadable(alloc, case),
         "full" => full(alloc, case),
         _ => bare_end(name).context("no such end"),

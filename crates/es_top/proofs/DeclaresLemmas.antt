@@ -22,8 +22,7 @@ use Rattle.es_top.specs.declared.loading.LoadFault.TheVariants.{Declaration, Fai
 use Rattle.es_top.specs.declared.status.Status.{Status}
 use Rattle.es_top.specs.declared.status.Status.TheVariants as status
 use Rattle.es_top.specs.Declares.{IsEndUnasked, IsNotAsked, declares, declares_for, document_declares, name_declares}
-use Rattle.es_single.specs.Ends.{Sort, itself, stopped, unbuilt, unbegun, sort_of}
-use Rattle.es_top.specs.Ends.{ended, end_of_load, Writes}
+use Rattle.es_top.specs.Ends.{ended, end_of_load, status_of_load, IsStopped, Writes}
 use Rattle.es_top.specs.Loads.{Loads}
 use Rattle.es_top.specs.Top.{Ran, StoresTell}
 use Rattle.es_top.specs.Words.{system_in}
@@ -54,15 +53,6 @@ fault_same c code p path d same is =
     let first : c ≡ code = cc same in
     let second : p ≡ path = cc same in
     subst (λ x. d ≡ Err (x, path)) first (subst (λ y. d ≡ Err (c, y)) second is)
-
--- a run that couldn't be loaded didn't come to an end of its own, and wasn't one that isn't made
-pub load_sort : {P : Type 0} (fault : LoadFault) (k : Sort) → sort_of (end_of_load fault) ≡ k → (k ≡ itself) ⊎ (k ≡ unbuilt) → P
-load_sort (Declaration code path) k is (inl same) = let clash : unbegun ≡ itself = is ∙ same in absurd (cc clash)
-load_sort (Declaration code path) k is (inr same) = let clash : unbegun ≡ unbuilt = is ∙ same in absurd (cc clash)
-load_sort Failed k is (inl same) = let clash : unbegun ≡ itself = is ∙ same in absurd (cc clash)
-load_sort Failed k is (inr same) = let clash : unbegun ≡ unbuilt = is ∙ same in absurd (cc clash)
-load_sort NoMemory k is (inl same) = let clash : stopped ≡ itself = is ∙ same in absurd (cc clash)
-load_sort NoMemory k is (inr same) = let clash : stopped ≡ unbuilt = is ∙ same in absurd (cc clash)
 
 none_there : (o : Option (Reading System)) → o ≡ None → IsSome o → ⊥
 none_there None is there = let clash : false ≡ true = there in absurd (cc clash)
@@ -106,3 +96,10 @@ module _ (docs : Option NamedDocuments) (words : List (String Global)) (name : N
       of_fault (Declaration c p) so same = fault_same c code p path d same (so.is d (named (Some d) asks))
       of_fault Failed so same = absurd (cc same)
       of_fault NoMemory so same = absurd (cc same)
+
+  -- the status of a system that couldn't be loaded, though the words ask for one
+  pub stopped_fault : (fault : LoadFault) → Loads docs name (Err fault) → (sys : System) → declares docs words ≡ Some (Ok sys) → (s : Status) → (s ≡ status_of_load fault) ⊎ ((s ≡ status.Sink) ⊎ (s ≡ status.Memory)) → IsStopped s
+  stopped_fault fault loads sys is s (inr rest) = inr rest
+  stopped_fault (Declaration code path) loads sys is s (inl same) = let clash : Ok sys ≡ Err (code, path) = loads.is (Ok sys) (named (Some (Ok sys)) is) in absurd (cc clash)
+  stopped_fault Failed loads sys is s (inl same) = inl same
+  stopped_fault NoMemory loads sys is s (inl same) = inr (inr same)

@@ -1,52 +1,42 @@
 -- What the top call leaves, by how the run over the stores ended and by what was written after it.
-use Rattle.std.proofs.Common.{◌≡◌, ◌⊎◌, inl, inr, ℕ, false, List, [], ◌∷◌, length, nat_lt, Contains, if◌then◌else◌, Option, Some, None, Ok, option_map, refl, sym, ap, ◌∙◌, subst, append-nil, arith}
+use Rattle.std.proofs.Common.{◌≡◌, ◌⊎◌, inl, inr, ℕ, false, List, [], ◌∷◌, ◌++◌, Option, Some, None, Ok, option_map, refl, sym, ap, ◌∙◌, subst, append-nil}
 use Rattle.std.specs.Io.KnownBytes.{Appends}
-use Rattle.std.proofs.lemmas.Bool.Decides.{nat_tests}
 use Rattle.es_model.specs.declared.declaration.Code.{Code}
 use Rattle.es_model.specs.declared.declaration.System.{System}
-use Rattle.es_model.specs.declared.event.Recording.{Recording}
 use Rattle.es_model.specs.declared.snapshot.Snapshot.{Snapshot}
-use Rattle.es_model.specs.History.{Histories, log}
-use Rattle.es_model.specs.Tracking.{tracked_in}
+use Rattle.es_model.specs.History.{Histories}
+use Rattle.es_model.specs.Lines.{Line}
 use Rattle.es_model.specs.Values.{Name}
 use Rattle.es_io.specs.Front.{AppendsFront}
 use Rattle.es_io.specs.Readings.{Readings}
 use Rattle.es_expr.specs.Checked.{IsCheckedSystem}
-use Rattle.es_decl.proofs.CheckedSystemLemmas.{pair-declared}
 use Rattle.es_lines.specs.declared.ends.End.{End}
 use Rattle.es_lines.specs.declared.ends.End.TheVariants as end
 use Rattle.es_lines.specs.Texts.{end_text, is_fixed}
+use Rattle.es_process.specs.declared.ahead.Ahead.{Ahead}
 use Rattle.es_process.specs.Contents.{Contents}
-use Rattle.es_process.specs.Reached.{ahead, tracked_of, last_of}
-use Rattle.es_process.specs.SingleThread.{Step, Run, left_by, written_by, as_line}
+use Rattle.es_process.specs.Decision.{Rules}
+use Rattle.es_process.specs.Reached.{ahead}
+use Rattle.es_process.specs.SingleThread.{Step, Run, IsRun, IsRunOver, IsRunUnless, start, left_by, written_by, as_line}
 use Rattle.es_process.specs.Standing.{IsFrontOf}
-use Rattle.es_process.specs.SystemRules.{rules_of, app_names}
-use Rattle.es_process.proofs.AmongLemmas.{contains-here, contains-later}
+use Rattle.es_process.specs.SystemRules.{rules_of}
 use Rattle.es_process.proofs.DeclaredLemmas.{declared-lawful}
+use Rattle.es_process.proofs.DrainLemmas.{run-exists}
+use Rattle.es_process.proofs.RunOverLemmas.{ok_none, run_of_none}
 use Rattle.es_process.proofs.RunReachedLemmas.{run-reached}
 use Rattle.es_process.proofs.RunSessionLemmas.{run-consistent, run-session, run-lines}
 use Rattle.es_process.proofs.StandingLemmas.{appends_then}
-use Rattle.es_single.specs.Limits.{limits, lines_for}
-use Rattle.es_single.specs.Runs.{AreEmpty}
+use Rattle.es_top.specs.Limits.{limits, lines_for}
 use Rattle.es_top.specs.declared.loading.LoadFault.{LoadFault}
 use Rattle.es_top.specs.declared.loading.LoadFault.TheVariants as fault
 use Rattle.es_top.specs.declared.status.Status.{Status}
 use Rattle.es_top.specs.declared.status.Status.TheVariants as status
-use Rattle.es_single.specs.Ends.{Sort, itself, stopped, in_lines, unbuilt, unbegun, sort_of}
-use Rattle.es_top.specs.Ends.{ended, end_of_load, status_of_load, sorted, code_of, IsToldAs, Writes, WritesLine}
+use Rattle.es_top.specs.Sorts.{Sort, itself, stopped, in_lines, unbegun, sort_of}
+use Rattle.es_top.specs.Ends.{ended, end_of_load, status_of_load, sorted, code_of, IsStopped, IsToldAs, Writes, WritesLine}
+use Rattle.es_top.specs.inner.Begins.{AheadEnd}
 use Rattle.es_top.specs.inner.Ran.{Stands}
-use Rattle.es_top.specs.Top.{Closes, Follows, FollowsBy, IsDone, LeavesConsistent, Made, Ran, StoresTell}
+use Rattle.es_top.specs.Top.{AheadExactly, Closes, Follows, FollowsBy, IsDone, LeavesConsistent, Made, Ran, StoresTell}
 use Rattle.es_top.proofs.TopLemmas.{made_none}
-
--- over applications that hold nothing no follower is ahead of its leader
-not_less : (h : Histories) (leader follower : Name) → h follower ≡ [] → nat_lt (length (log (h leader))) (tracked_in (h follower) leader) ≡ false
-not_less h leader follower empty = ap (λ (a : List Recording). nat_lt (length (log (h leader))) (tracked_in a leader)) empty ∙ (let none : nat_lt (length (log (h leader))) 0 ≡ false = grind (arith, nat_tests) in none)
-
-none_ahead : (h : Histories) (names : List Name) → AreEmpty names h → (pairs : List (Name × Name)) → ((p : Name × Name) → Contains pairs p → Contains names p.0 × Contains names p.1) → ahead pairs h ≡ None
-none_ahead h names empty [] named = refl
-none_ahead h names empty (p ∷ pairs) named =
-    (λ i. if not_less h p.0 p.1 (empty p.1 (named p (contains-here p pairs)).1) i then Some (record { leader = p.0; follower = p.1; tracked = tracked_of h p; last = last_of h p }) else ahead pairs h)
-    ∙ none_ahead h names empty pairs (λ q there. named q (contains-later p pairs q there))
 
 -- what was written of a line, by the status
 pub line_told : (e : End) (line : List ℕ) (v w : Option (List ℕ)) (s : Status) → ended s ≡ Some e → Appends v w line → WritesLine e line v w (ended s)
@@ -90,25 +80,53 @@ pub told_as : (e told : End) → IsToldAs e told → (told ≡ end.Memory → �
 told_as e told (inl is) not = is
 told_as e told (inr is) not = absurd (not is.0)
 
+-- first steps of a run over an opening are those of the run from its start, where none is ahead with the same behind them
+record FromStart (found : Option Ahead) (rules : Rules) (h : Contents) (r : Readings) (lines : List Line) (done rest : List Step) : Type 0 where
+  run : Run
+  is : IsRun rules limits h.histories (start rules h r lines) run
+  later : List Step
+  parts : run.steps ≡ done ++ later
+  same : found ≡ None → later ≡ rest
+
+no_steps : (done rest : List Step) → [] ≡ done ++ rest → done ≡ []
+no_steps [] rest is = refl
+no_steps (s ∷ done) rest is = absurd (cc is)
+
+from_start : (rules : Rules) (h : Contents) (r : Readings) (lines : List Line) (run : Run) → IsRunOver rules limits h r lines run → (done rest : List Step) → run.steps ≡ done ++ rest → FromStart (ahead rules.pairs h.histories) rules h r lines done rest
+from_start rules h r lines run is done rest parts = by (ahead rules.pairs h.histories) is
+  where
+    by : (o : Option Ahead) → IsRunUnless o rules limits h r lines run → FromStart o rules h r lines done rest
+    by None so = record { run = run; is = so; later = rest; parts = parts; same = λ none. refl }
+    by (Some a) so =
+        let one = run-exists rules limits h.histories h r lines in
+        let none : done ≡ [] = no_steps done rest (ap (λ (x : Run). x.steps) (sym so) ∙ parts) in
+        record { run = one.run; is = one.is; later = one.run.steps; parts = ap (λ (d : List Step). d ++ one.run.steps) (sym none); same = λ is. absurd (cc is) }
+
 -- where some first steps of a run were made, all that is said of it holds
 module _ (L S D : Type 0) (sys : System) (checked : IsCheckedSystem sys) (i : List ℕ) (unread : List ℕ) (r : Readings) (h : Contents) (new : Option Histories) (kept : Option (Name → List Snapshot)) (u w : Option (List ℕ)) (s : Status) (tail : List ℕ)
     (x : Made sys i r h (λ k. StoresTell k new kept) u w tail) (closes : Closes L S D sys i unread r h x.run x.done x.rest tail (ended s)) where
   ends_well : (added : List (Name × ℕ)) (count : ℕ) → s ≡ status.Ok added count → Follows L S D sys i unread r h x.run x.done x.rest (end.Ok added count)
   ends_well added count is = let at : Closes L S D sys i unread r h x.run x.done x.rest tail (ended (status.Ok added count)) = subst (λ y. Closes L S D sys i unread r h x.run x.done x.rest tail (ended y)) is closes in at.1
 
-  all_made : code_of s ≡ 0 → x.rest ≡ []
-  all_made = by s refl
+  -- the status 0 tells a run that ended well, so that none was ahead
+  code_well : code_of s ≡ 0 → (ahead (rules_of sys).pairs h.histories ≡ None) × (x.rest ≡ [])
+  code_well = by s refl
     where
-      by : (y : Status) → s ≡ y → code_of y ≡ 0 → x.rest ≡ []
-      by (status.Ok added count) is zero = (ends_well added count is).1
+      by : (y : Status) → s ≡ y → code_of y ≡ 0 → (ahead (rules_of sys).pairs h.histories ≡ None) × (x.rest ≡ [])
+      by (status.Ok added count) is zero = let follows = ends_well added count is in (ok_none (rules_of sys) limits h r (lines_for (rules_of sys) i) x.run added count x.is follows.1, follows.0)
       by y is zero = absurd (cc zero)
+
+  plain : FromStart (ahead (rules_of sys).pairs h.histories) (rules_of sys) h r (lines_for (rules_of sys) i) x.done x.rest
+  plain = from_start (rules_of sys) h r (lines_for (rules_of sys) i) x.run x.is x.done x.rest x.parts
 
   done_well : (added : List (Name × ℕ)) (count : ℕ) → s ≡ status.Ok added count → IsDone sys i h.histories (left_by x.done h).histories added count
   done_well added count is =
       let follows : Follows L S D sys i unread r h x.run x.done x.rest (end.Ok added count) = ends_well added count is in
-      let counts = run-lines (rules_of sys) (declared-lawful sys checked) limits h r (lines_for (rules_of sys) i) x.run x.is x.done x.rest x.parts follows.1 added count follows.2 in
+      let none = ok_none (rules_of sys) limits h r (lines_for (rules_of sys) i) x.run added count x.is follows.1 in
+      let begun = run_of_none (rules_of sys) limits h r (lines_for (rules_of sys) i) x.run none x.is in
+      let counts = run-lines (rules_of sys) (declared-lawful sys checked) limits h r (lines_for (rules_of sys) i) x.run begun x.done x.rest x.parts follows.0 added count follows.1 in
       record {
-        reached = run-reached (rules_of sys) limits h r (lines_for (rules_of sys) i) x.run x.is (none_ahead h.histories (app_names sys) follows.0.1 (rules_of sys).pairs (λ p. pair-declared sys p checked)) x.done x.rest x.parts follows.1 added count follows.2;
+        reached = run-reached (rules_of sys) limits h r (lines_for (rules_of sys) i) x.run begun none x.done x.rest x.parts follows.0 added count follows.1;
         all = counts.1 ∙ counts.0;
         counts = counts.2;
       }
@@ -118,8 +136,8 @@ module _ (L S D : Type 0) (sys : System) (checked : IsCheckedSystem sys) (i : Li
     tail = tail;
     made = x;
     closes = closes;
-    consistent = run-consistent (rules_of sys) (declared-lawful sys checked) limits h r (lines_for (rules_of sys) i) x.run x.is x.done x.rest x.parts;
-    session = run-session (rules_of sys) (declared-lawful sys checked) limits h r (lines_for (rules_of sys) i) x.run x.is x.done x.rest x.parts (code_of s) all_made;
+    consistent = run-consistent (rules_of sys) (declared-lawful sys checked) limits h r (lines_for (rules_of sys) i) plain.run plain.is x.done plain.later plain.parts;
+    session = run-session (rules_of sys) (declared-lawful sys checked) limits h r (lines_for (rules_of sys) i) plain.run plain.is x.done plain.later plain.parts (code_of s) (λ zero. let well = code_well zero in plain.same well.0 ∙ well.1);
     well = done_well;
   }
 
@@ -129,7 +147,6 @@ by_failing : (L S D : Type 0) (sys : System) (i : List ℕ) (unread : List ℕ) 
 by_failing L S D sys i unread r h run done rest end.Input lines stores x = (lines refl, x.1)
 by_failing L S D sys i unread r h run done rest end.Recorder lines stores x = stores
 by_failing L S D sys i unread r h run done rest end.Memory lines stores x = stores
-by_failing L S D sys i unread r h run done rest end.NotBuilt lines stores x = x
 by_failing L S D sys i unread r h run done rest end.Usage lines stores x = absurd x.1
 by_failing L S D sys i unread r h run done rest (end.Declaration code path) lines stores x = absurd x.1
 by_failing L S D sys i unread r h run done rest end.System lines stores x = absurd x.1
@@ -145,7 +162,6 @@ module _ (L S D : Type 0) (sys : System) (checked : IsCheckedSystem sys) (i : Li
     rest = x.rest;
     is = x.is;
     parts = x.parts;
-    begun = x.begun;
     held = x.held;
     written = appends_then u v w (written_by x.done) tail (subst (Appends u v) (append-nil (written_by x.done)) x.written) line;
   }
@@ -184,7 +200,6 @@ ran_weaker L S D sys i unread r h new kept u w s x = record {
     weaker itself e y = y
     weaker stopped e y = y
     weaker in_lines e y = y
-    weaker unbuilt e y = y
     weaker unbegun e y = absurd y.1
 
     by : (o : Option End) → Closes L S ⊥ sys i unread r h x.made.run x.made.done x.made.rest x.tail o → Closes L S D sys i unread r h x.made.run x.made.done x.made.rest x.tail o
@@ -243,10 +258,6 @@ usage_front s v w writes is = by (subst (λ y. Writes end.Usage v w (ended y)) i
     by (told, inl same, front) = subst (λ y. AppendsFront v w (as_line (end_text y))) same front
     by (told, inr same, front) = absurd (cc same.1)
 
--- the line of an end that is known
-pub line_of_end : (e f : End) (s : Status) (u v w : Option (List ℕ)) → e ≡ f → v ≡ u → ended s ≡ Some f → Writes e v w (ended s) → Appends u w (as_line (end_text f))
-line_of_end e f s u v w is silent told writes = subst (λ o. Appends o w (as_line (end_text f))) silent (writes_so e s v w writes f told).1
-
 -- the status of a run that couldn't be loaded
 pub load_told : (f : LoadFault) (s : Status) (v w : Option (List ℕ)) → Writes (end_of_load f) v w (ended s) → (s ≡ status_of_load f) ⊎ ((s ≡ status.Sink) ⊎ (s ≡ status.Memory))
 load_told f s v w writes = by (ended s) refl writes
@@ -280,3 +291,49 @@ early_front P e s u w so starved writes is = by (subst (λ y. Writes e u w (ende
 
     by : Writes e u w None → (x : End) × P x × AppendsFront u w (as_line (end_text x))
     by y = (y.0, told y.0 y.1, y.2)
+
+-- a status that tells that a follower is ahead, or want of memory, or a failed recorder
+told_ahead : (s : Status) (app leader : Name) (tracked last : ℕ) → ended s ≡ Some (end.Ahead app leader tracked last) → s ≡ status.Ahead app leader tracked last
+told_ahead (status.Ahead a l t k) app leader tracked last is =
+    let first : a ≡ app = cc is in
+    let second : l ≡ leader = cc is in
+    let third : t ≡ tracked = cc is in
+    let fourth : k ≡ last = cc is in
+    (λ j. status.Ahead (first j) (second j) (third j) (fourth j))
+told_ahead s app leader tracked last is = absurd (cc is)
+
+told_memory : (s : Status) → ended s ≡ Some end.Memory → s ≡ status.Memory
+told_memory status.Memory is = refl
+told_memory s is = absurd (cc is)
+
+told_recorder : (s : Status) → ended s ≡ Some end.Recorder → s ≡ status.Recorder
+told_recorder status.Recorder is = refl
+told_recorder s is = absurd (cc is)
+
+-- where one is ahead the end of the run is that one, or something failed
+ahead_told : (a : Ahead) (s : Status) (e : End) → AheadEnd (Some a) e → ended s ≡ Some e → AheadExactly (Some a) s
+ahead_told a s (end.Ahead app leader tracked last) so is =
+    let same : a ≡ record { app = app; leader = leader; tracked = tracked; last = last } = cc so in
+    inl (told_ahead s app leader tracked last is ∙ sym (ap (λ (b : Ahead). status.Ahead b.app b.leader b.tracked b.last) same))
+ahead_told a s end.Memory so is = inr (inl (inr (inr (told_memory s is))))
+ahead_told a s end.Recorder so is = inr (inr (told_recorder s is))
+ahead_told a s e so is = absurd (cc so)
+
+-- how a run that came to its end is told, by whether one is ahead
+pub ahead_exactly : (o : Option Ahead) (e : End) (s : Status) (v w : Option (List ℕ)) → AheadEnd o e → Writes e v w (ended s) → AheadExactly o s
+ahead_exactly (Some a) e s v w so writes = by (ended s) refl writes
+  where
+    by : (t : Option End) → ended s ≡ t → Writes e v w t → AheadExactly (Some a) s
+    by None is y = inr (inl (inr (inl (none_told s is))))
+    by (Some told) is (inl same, line) = ahead_told a s e so (is ∙ ap Some same)
+    by (Some told) is (inr same, line) = inr (inl (inr (inr (told_memory s (is ∙ ap Some same.0)))))
+ahead_exactly None e s v w so writes = λ a is.
+    let told : e ≡ end.Ahead a.app a.leader a.tracked a.last = same_end e (end.Ahead a.app a.leader a.tracked a.last) s v w (λ same. absurd (cc same)) writes (ap ended is) in
+    let none : None ≡ Some a = subst (AheadEnd None) told so in absurd (cc none)
+
+-- a run whose sink failed
+pub ahead_cut : (o : Option Ahead) (s : Status) → IsStopped s → AheadExactly o s
+ahead_cut (Some a) s so = inr (inl so)
+ahead_cut None s (inl is) = λ a same. let clash : status.System ≡ status.Ahead a.app a.leader a.tracked a.last = sym is ∙ same in absurd (cc clash)
+ahead_cut None s (inr (inl is)) = λ a same. let clash : status.Sink ≡ status.Ahead a.app a.leader a.tracked a.last = sym is ∙ same in absurd (cc clash)
+ahead_cut None s (inr (inr is)) = λ a same. let clash : status.Memory ≡ status.Ahead a.app a.leader a.tracked a.last = sym is ∙ same in absurd (cc clash)

@@ -1,6 +1,12 @@
 mod DeclaresLemmas
 mod EndLemmas
 mod TopLemmas
+pub mod CountLemmas
+pub mod InputLemmas
 pub mod LoadingLemmas
+pub mod LoopLemmas
 pub mod OpeningLemmas
-pub mod PairingLemmas
+pub mod RunLemmas
+pub mod ServesLemmas
+pub mod StaysLemmas
+pub mod TakenLemmas

@@ -1,6 +1,5 @@
 -- Applications that are opened and closed one after another.
-use Rattle.std.proofs.Common.{◌≡◌, ◌⊎◌, ◌<◌, ◌≤◌, ◌+◌, inl, inr, ℕ, zero, suc, Bool, true, false, ltb, ◌||◌, List, [], ◌∷◌, ◌++◌, length, map, drop, Contains, slice_get, slice_set, get_or, if◌then◌else◌, Option, Some, None, IfSome, refl, sym, ap, ◌∙◌, subst, append_assoc, append-nil, arith}
-use Rattle.std.proofs.lemmas.Bool.Decides.{Decides-ltb}
+use Rattle.std.proofs.Common.{◌≡◌, ◌⊎◌, ◌<◌, ◌≤◌, ◌+◌, inl, inr, ℕ, zero, suc, Bool, true, false, ◌||◌, List, [], ◌∷◌, ◌++◌, length, map, drop, Contains, slice_get, slice_set, get_or, if◌then◌else◌, Option, Some, None, IfSome, refl, sym, ap, ◌∙◌, subst, append_assoc, append-nil, arith}
 use Rattle.std.proofs.lemmas.List.{map-append, length-map}
 use Rattle.std.proofs.lemmas.Option.{slice_get-get_or}
 use Rattle.std.proofs.Math.Seq.{drop-cons}
@@ -19,11 +18,11 @@ use Rattle.es_process.specs.Contents.{Contents}
 use Rattle.es_process.specs.SingleThread.{is_among}
 use Rattle.es_process.specs.Standing.{HoldsOne, Holds, AreDistinct, IsSame, names_in, faults_at, count_of}
 use Rattle.es_process.proofs.AmongLemmas.{among-contains, contains-among, contains-last, is-same, same-name, put-cases, put-here, put-other, same-or-not}
-use Rattle.es_process.proofs.HoldsLemmas.{all-none, contains-at, name-at, same-one, later-then, later-set}
+use Rattle.es_process.proofs.HoldsLemmas.{contains-at, name-at, same-one, later-then, later-set}
 use Rattle.es_process.proofs.SetLemmas.{get-cases, map-set}
-use Rattle.es_single.specs.Limits.{limits}
-use Rattle.es_single.specs.Runs.{state_of, AreEmpty}
-use Rattle.es_top.specs.Opened.{marked, HoldElsewhere, TellEach, AreHandedOut, AreFresh, AreKept, ClosesEach, SomeFailed, IsUnused, AreOpened, IsFrontOfNames, IsOccupied}
+use Rattle.es_top.specs.Limits.{limits}
+use Rattle.es_top.specs.Runs.{state_of}
+use Rattle.es_top.specs.Opened.{marked, HoldElsewhere, TellEach, AreHandedOut, AreFresh, AreKept, ClosesEach, SomeFailed, IsUnused, AreOpened, IsFrontOfNames}
 use Rattle.es_top.specs.Top.{IsLeft, StoresTell}
 
 -- names
@@ -348,9 +347,6 @@ module _ {R : Type 0} (history : R → Option (List Recording)) (snapshots : R �
         rises (suc i) some = omega (arith, x.risen (i, some), later)
 
 module _ {R : Type 0} (history : R → Option (List Recording)) (capacity : R → ℕ) (snapshots : R → Option (List Snapshot)) (faults : R → ℕ) where
-  pub kept_none : (apps : List (Application R)) → AreKept history capacity snapshots faults apps apps
-  kept_none apps = record { holds = λ base options readings s held. held; tells = record { told = λ h tells. tells; told_snapshots = λ q tells. tells }; stay = all-none faults apps }
-
   -- where one of them is the same they tell the same
   tells_set : {A : Type 0} (tell : R → Option A) (q : Name → A) (mid : List (Application R)) (i : ℕ) (a b : Application R) → slice_get mid i ≡ Some a → b.name ≡ a.name → tell (recorder_of b) ≡ tell (recorder_of a) → TellEach tell q mid → TellEach tell q (slice_set mid i b)
   tells_set tell q mid i a b at named same tells = λ j c there.
@@ -384,31 +380,3 @@ module _ {R : Type 0} (history : R → Option (List Recording)) (capacity : R �
   pub told_at : (h : Histories) (old mid : List (Application R)) (i : ℕ) (a : Application R) → AreKept history capacity snapshots faults old mid → TellEach history h old → slice_get mid i ≡ Some a
       → (history (recorder_of a) ≡ Some (h a.name)) × (slice_get (names_in old) i ≡ Some a.name)
   told_at h old mid i a x tells at = (x.tells.told h tells i a at, ap (λ (names : List Name). slice_get names i) (sym x.stay.names) ∙ name-at mid i a at)
-
--- the first of some applications hold nothing
-abbrev pub AreEmptyTo : List Name → ℕ → Histories → Type 0
-AreEmptyTo names i h = (k : ℕ) (n : Name) → k < i → slice_get names k ≡ Some n → h n ≡ []
-
-pub empty_none : (names : List Name) (h : Histories) → AreEmptyTo names 0 h
-empty_none names h k n below at = absurd (omega (arith, below))
-
-empty_of : (h : List Recording) (used : Bool) → used ≡ ltb 0 (length h) → used ≡ false → h ≡ []
-empty_of [] used is unused = refl
-empty_of (r ∷ h) used is unused = absurd (let clash : true ≡ false = sym ((Decides-ltb 0 (length (r ∷ h))).1 (omega arith)) ∙ sym is ∙ unused in cc clash)
-
-pub empty_more : (names : List Name) (i : ℕ) (h : Histories) (n : Name) (used : Bool) → AreEmptyTo names i h → slice_get names i ≡ Some n → used ≡ ltb 0 (length (h n)) → used ≡ false → AreEmptyTo names (i + 1) h
-empty_more names i h n used before at is unused k m below there = by (ltb k i) refl
-  where
-    by : (b : Bool) → ltb k i ≡ b → h m ≡ []
-    by true less = before k m ((Decides-ltb k i).0 less) there
-    by false past =
-        let none : k < i → ⊥ = λ (less : k < i). (let clash : false ≡ true = sym past ∙ (Decides-ltb k i).1 less in cc clash) in
-        let same : k ≡ i = omega (arith, none, below) in
-        let name : n ≡ m = (let e : Some n ≡ Some m = sym at ∙ ap (slice_get names) (sym same) ∙ there in (let f : n ≡ m = cc in f)) in
-        ap h (sym name) ∙ empty_of (h n) used is unused
-
-pub empty_all : (names : List Name) (i : ℕ) (h : Histories) → AreEmptyTo names i h → length names ≤ i → AreEmpty names h
-empty_all names i h before past n there = let within : there.0 < length names = there.1 in before there.0 n (omega (arith, within, past)) (contains_get names n there).1
-
-pub occupied_at : (names : List Name) (i : ℕ) (h : Histories) (n : Name) (used : Bool) → slice_get names i ≡ Some n → used ≡ ltb 0 (length (h n)) → used ≡ true → IsOccupied names h
-occupied_at names i h n used at is taken = (n, contains-at names i n at, (Decides-ltb 0 (length (h n))).0 (sym is ∙ taken))

@@ -1,5 +1,5 @@
 -- From a run over opened applications to one over the stores.
-use Rattle.std.proofs.Common.{◌≡◌, ◌≤◌, inl, inr, pos, ℕ, Bool, true, false, List, [], ◌++◌, length, take, drop, Option, Some, None, IfOk, Result, Ok, Err, if◌then◌else◌, refl, sym, ap, ◌∙◌, subst, append-nil, arith}
+use Rattle.std.proofs.Common.{◌≡◌, ◌≤◌, pos, ℕ, Bool, true, false, List, [], ◌++◌, length, take, drop, Option, Some, None, IfOk, Result, Ok, Err, if◌then◌else◌, refl, sym, ap, ◌∙◌, subst, append-nil, arith}
 use Rattle.std.proofs.Math.Seq.{take-append_seam}
 use Rattle.std.specs.Io.KnownBytes.{Appends}
 use Rattle.es_model.specs.Causes.{Rose}
@@ -16,20 +16,18 @@ use Rattle.es_io.specs.Remains.{MayHold}
 use Rattle.es_process.specs.Answer.{Options}
 use Rattle.es_process.specs.Contents.{Contents}
 use Rattle.es_process.specs.declared.application.Application.{Application}
-use Rattle.es_process.specs.Drains.{IsOnlyPair, AreApps}
-use Rattle.es_process.specs.declared.draining.Pair.{Pair}
 use Rattle.es_process.specs.SingleThread.{is_among, left_by, written_by}
-use Rattle.es_process.specs.Standing.{AreDistinct, Holds, SomeRose, State, faults_at, names_in}
-use Rattle.es_process.specs.SystemRules.{rules_of, app_names}
-use Rattle.es_process.proofs.DrainLemmas.{run-exists}
+use Rattle.es_process.specs.Standing.{AllStay, AreDistinct, Holds, SomeRose, State, faults_at, names_in}
+use Rattle.es_process.specs.SystemRules.{rules_of}
+use Rattle.es_process.proofs.RunOverLemmas.{one_run_over}
 use Rattle.es_process.proofs.StandingLemmas.{appends_nothing}
-use Rattle.es_single.specs.Limits.{limits, terms_of, lines_for}
-use Rattle.es_single.specs.Runs.{AreEmpty, IsRunning, PartRun, Runs, WholeRun}
-use Rattle.es_single.specs.Traced.{OfInput}
-use Rattle.es_single.specs.Ends.{itself, sort_of, unbegun}
-use Rattle.es_top.specs.Opened.{marked, AreFresh, ClosesEach, HoldElsewhere, TellEach, IsOccupied, IsOccupiedTest, SomeFailed, is_beyond}
+use Rattle.es_top.specs.Limits.{limits, terms_of, lines_for}
+use Rattle.es_top.specs.Runs.{IsRunning, PartRun, Runs, WholeRun}
+use Rattle.es_top.specs.Traced.{OfInput}
+use Rattle.es_top.specs.Sorts.{itself, sort_of, unbegun}
+use Rattle.es_top.specs.Opened.{marked, AreFresh, ClosesEach, HoldElsewhere, TellEach, SomeFailed}
 use Rattle.es_top.specs.inner.Ran.{IsOfSystem, Stands}
-use Rattle.es_top.specs.Top.{FollowsBy, IfTold, IsLeft, Made, StoresTell}
+use Rattle.es_top.specs.Top.{FollowsBy, IsLeft, Made, StoresTell}
 
 -- something that an object may hold
 may_hold : {A : Type 0} (told : Option A) → A → (a : A) × MayHold told a
@@ -50,13 +48,13 @@ of_then x f = record { input = x.input; rest = x.rest; readings = x.readings; he
 -- nothing was run; all steps are still to be made
 abbrev pub made_none : (sys : System) (i : List ℕ) (r : Readings) (h : Contents) (left : Contents → Type 0) (u w : Option (List ℕ)) → left h → w ≡ u → Made sys i r h left u w []
 made_none sys i r h left u w held still =
-    let one = run-exists (rules_of sys) limits h.histories h r (lines_for (rules_of sys) i) in
-    record { run = one.run; done = []; rest = one.run.steps; is = one.is; parts = refl; begun = inr refl; held = held; written = subst (λ x. Appends u x []) (sym still) (appends_nothing u) }
+    let one = one_run_over (rules_of sys) limits h r (lines_for (rules_of sys) i) in
+    record { run = one.run; done = []; rest = one.run.steps; is = one.is; parts = refl; held = held; written = subst (λ x. Appends u x []) (sym still) (appends_nothing u) }
 
--- a run over applications that were found empty
-module _ (sys : System) (h : Contents) (r : Readings) (i : List ℕ) (left : Contents → Type 0) (u w : Option (List ℕ)) (plain : is_beyond sys ≡ false) (empty : AreEmpty (app_names sys) h.histories) (rest_of : List ℕ) where
+-- a run over applications
+module _ (sys : System) (h : Contents) (r : Readings) (i : List ℕ) (left : Contents → Type 0) (u w : Option (List ℕ)) (rest_of : List ℕ) where
   abbrev made_part : (front : List ℕ) → PartRun (terms_of sys) h r i left u w front → Made sys i r h left u w front
-  made_part front x = record { run = x.run; done = x.done; rest = x.rest; is = x.is; parts = x.parts; begun = inl (plain, empty); held = x.held; written = x.written }
+  made_part front x = record { run = x.run; done = x.done; rest = x.rest; is = x.is; parts = x.parts; held = x.held; written = x.written }
 
   abbrev made_whole : (e : End) → WholeRun (terms_of sys) h r i left u w e → (x : Made sys i r h left u w []) × FollowsBy (Unit {0}) (Unit {0}) ⊥ sys i rest_of r h x.run x.done x.rest itself e
   made_whole e x = (
@@ -66,11 +64,10 @@ module _ (sys : System) (h : Contents) (r : Readings) (i : List ℕ) (left : Con
       rest = [];
       is = x.is;
       parts = sym (append-nil x.steps);
-      begun = inl (plain, empty);
       held = x.held;
       written = subst (Appends u w) (sym (append-nil (written_by x.steps))) x.written;
     },
-    ((plain, empty), refl, refl),
+    (refl, refl),
   )
 
   pub run_stands : (result : Result End Failed) → Runs (terms_of sys) h r i (Some rest_of) left u w result → Stands sys i rest_of r h left u w result
@@ -78,32 +75,21 @@ module _ (sys : System) (h : Contents) (r : Readings) (i : List ℕ) (left : Con
   run_stands (Ok end.Memory) x = (made_part [] x, λ is. tt)
   run_stands (Ok end.Recorder) x = (made_part [] x, λ is. tt)
   run_stands (Ok end.Input) x = (made_part [] x.0, (tt, x.1))
-  run_stands (Ok end.NotBuilt) x = absurd x
   run_stands (Ok end.Usage) x = absurd x
   run_stands (Ok (end.Declaration code path)) x = absurd x
   run_stands (Ok end.System) x = absurd x
   run_stands (Ok e) x = made_whole e x
 
--- an end of a run comes after the system was read, and isn't that the system isn't run
-running_sort : (e : End) → IsRunning e → (sort_of e ≡ unbegun → ⊥) × (e ≡ end.NotBuilt → ⊥)
-running_sort end.NotBuilt so = absurd so
+-- an end of a run comes after the system was read
+running_sort : (e : End) → IsRunning e → sort_of e ≡ unbegun → ⊥
 running_sort end.Usage so = absurd so
 running_sort (end.Declaration code path) so = absurd so
 running_sort end.System so = absurd so
-running_sort e so = (λ is. cc is, λ is. cc is)
+running_sort e so = λ is. cc is
 
 pub running_result : (result : Result End Failed) → IfOk result IsRunning → IfOk result IsOfSystem
-running_result (Ok e) so = (running_sort e so).0
+running_result (Ok e) so = running_sort e so
 running_result (Err f) so = tt
-
-pub running_ends : {P : Type 0} (result : Result End Failed) → IfOk result IsRunning → result ≡ Ok end.NotBuilt → P
-running_ends (Ok e) so is = absurd ((running_sort e so).1 (cc is))
-running_ends (Err f) so is = absurd (cc is)
-
--- what is said of an end of its own is said of every end
-pub built_end : {X : Type 0} (result : Result End Failed) → X → IfOk result (λ e. sort_of e ≡ itself → X)
-built_end (Ok e) x = λ is. x
-built_end (Err f) x = tt
 
 -- what is held of a state tells the histories
 pub held_histories : {R : Type 0} (history : R → Option (List Recording)) (snapshots : R → Option (List Snapshot)) (capacity : R → ℕ) (base : Contents) (o : Options) (apps : List (Application R)) (readings : Option Readings) (s : State)
@@ -112,33 +98,12 @@ held_histories history snapshots capacity base o apps readings s held = λ i a a
 
 -- what is held, in other words
 abbrev made_held : (sys : System) (i : List ℕ) (r : Readings) (h : Contents) (left now : Contents → Type 0) (u w : Option (List ℕ)) → ((k : Contents) → left k → now k) → (tail : List ℕ) → Made sys i r h left u w tail → Made sys i r h now u w tail
-made_held sys i r h left now u w closed tail x = record { run = x.run; done = x.done; rest = x.rest; is = x.is; parts = x.parts; begun = x.begun; held = closed (left_by x.done h) x.held; written = x.written }
+made_held sys i r h left now u w closed tail x = record { run = x.run; done = x.done; rest = x.rest; is = x.is; parts = x.parts; held = closed (left_by x.done h) x.held; written = x.written }
 
 pub stands_held : (sys : System) (i : List ℕ) (rest_of : List ℕ) (r : Readings) (h : Contents) (left now : Contents → Type 0) (u w : Option (List ℕ)) → ((k : Contents) → left k → now k) → (result : Result End Failed)
     → Stands sys i rest_of r h left u w result → Stands sys i rest_of r h now u w result
 stands_held sys i rest_of r h left now u w closed (Ok e) x = (made_held sys i r h left now u w closed [] x.0, x.1)
 stands_held sys i rest_of r h left now u w closed (Err f) x = (x.0, made_held sys i r h left now u w closed x.0 x.1, x.2)
-
--- the applications of the one pair are those of the system, in its order
-pub pair_apps : (sys : System) (names : List Name) (p : Option Pair) → IsOnlyPair sys names p → AreApps sys names
-pair_apps sys names None only = only.0
-pair_apps sys names (Some p) only = only.apps
-
--- applications that were found empty, or occupied
-pub found_empty : (names found : List Name) (h : Histories) (b : Bool) → found ≡ names → b ≡ false → IsOccupiedTest found h b → AreEmpty names h
-found_empty names found h b named is told = subst (λ n. IsOccupiedTest n h false) named (subst (IsOccupiedTest found h) is told)
-
-pub found_occupied : (names found : List Name) (h : Histories) (b : Bool) → found ≡ names → b ≡ true → IsOccupiedTest found h b → IsOccupied names h
-found_occupied names found h b named is told = subst (λ n. IsOccupiedTest n h true) named (subst (IsOccupiedTest found h) is told)
-
--- a claim on told stores
-pub if_told : (held : Option Histories) (P : Histories → Type 0) → ((h : Histories) → held ≡ Some h → P h) → IfTold held P
-if_told None P told = tt
-if_told (Some h) P told = told h refl
-
-pub left_told : {A : Type 0} (held new : Option (Name → A)) → ((h : Name → A) → held ≡ Some h → new ≡ Some h) → IsLeft held new
-left_told None new told = tt
-left_told (Some h) new told = told h refl
 
 left_is : {A : Type 0} (h : Name → A) (held new : Option (Name → A)) → held ≡ Some h → IsLeft held new → new ≡ Some h
 left_is h held new told left = subst (λ o. IsLeft o new) told left
@@ -170,6 +135,14 @@ written_back len new lent items kept is size =
     let same : len ≡ length new = size ∙ ap length (sym is) ∙ sym kept in
     ap (λ k. take k (new ++ drop (length new) items)) same ∙ take-append_seam new (drop (length new) items)
 
+-- what holds of what was written back holds of the vector
+pub written_keeps : {A : Type 0} (P : List A → Type 0) (len : ℕ) (new lent items : List A) → length new ≡ length lent → lent ≡ items → len ≡ length items → P new → P (take len (new ++ drop (length new) items))
+written_keeps P len new lent items kept is size so = subst P (sym (written_back len new lent items kept is size)) so
+
+-- and its applications stay
+pub written_stay : {R : Type 0} (faults : R → ℕ) (len : ℕ) (new lent items : List (Application R)) → length new ≡ length lent → lent ≡ items → len ≡ length items → AllStay faults lent new → AllStay faults items (take len (new ++ drop (length new) items))
+written_stay faults len new lent items kept is size stay = written_keeps (AllStay faults items) len new lent items kept is size (subst (λ xs. AllStay faults xs new) is stay)
+
 -- a recorder whose count of faults rose in the run has failed
 pub some_failed : {R : Type 0} (faults : R → ℕ) (old new : List (Application R)) → AreFresh faults old → SomeRose faults old new → SomeFailed faults new
 some_failed faults old new fresh rose =
@@ -178,8 +151,3 @@ some_failed faults old new fresh rose =
 
 pub rose_later : (before opened now : ℕ) → before ≤ opened → Rose opened now → Rose before now
 rose_later before opened now later rose = omega arith
-
--- applications that were lent and written back have the names that they had
-pub names_back : {R : Type 0} (len : ℕ) (new lent items : List (Application R)) (names : List Name) → take len (new ++ drop (length new) items) ≡ new → names_in new ≡ names_in lent → lent ≡ items → names_in items ≡ names
-    → names_in (take len (new ++ drop (length new) items)) ≡ names
-names_back {R} len new lent items names written same is named = ap (λ (xs : List (Application R)). names_in xs) written ∙ same ∙ ap (λ (xs : List (Application R)). names_in xs) is ∙ named

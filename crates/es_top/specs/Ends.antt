@@ -6,7 +6,7 @@ use Rattle.es_lines.specs.declared.ends.End.{End}
 use Rattle.es_lines.specs.declared.ends.End.TheVariants as end
 use Rattle.es_lines.specs.Texts.{end_text, is_fixed}
 use Rattle.es_process.specs.SingleThread.{as_line}
-use Rattle.es_single.specs.Ends.{Sort, sort_of}
+use Rattle.es_top.specs.Sorts.{Sort, sort_of}
 use Rattle.es_top.specs.declared.loading.LoadFault.{LoadFault}
 use Rattle.es_top.specs.declared.loading.LoadFault.TheVariants.{Declaration, Failed, NoMemory}
 use Rattle.es_top.specs.declared.status.Status.{Status}
@@ -27,7 +27,7 @@ ended (status.Turns app turns) = Some (end.Turns app turns)
 ended (status.Unreadable app id) = Some (end.Unreadable app id)
 ended (status.Full app last capacity) = Some (end.Full app last capacity)
 ended status.Over = Some end.Over
-ended status.NotBuilt = Some end.NotBuilt
+ended (status.Ahead app leader tracked last) = Some (end.Ahead app leader tracked last)
 
 -- the number of a status
 abbrev pub code_of : Status → ℕ
@@ -41,10 +41,10 @@ code_of status.Sink = 6
 code_of status.Recorder = 7
 code_of (status.Refused app leader id recordings code rule) = 8
 code_of (status.Turns app turns) = 9
+code_of (status.Ahead app leader tracked last) = 10
 code_of (status.Unreadable app id) = 11
 code_of (status.Full app last capacity) = 12
 code_of status.Over = 13
-code_of status.NotBuilt = 15
 
 -- what a status tells of the run
 abbrev pub sorted : Status → Option Sort

@@ -1,7 +1,11 @@
 pub mod Declares
 pub mod Ends
+pub mod Limits
 pub mod Loads
 pub mod Opened
+pub mod Runs
+pub mod Sorts
 pub mod Top
+pub mod Traced
 pub mod Words
 pub mod inner

@@ -1,24 +1,17 @@
--- Applications that were opened, and what stands beyond this stage.
-use Rattle.std.specs.Prelude.{◌≡◌, ◌⊎◌, ◌<◌, ℕ, nat_lt, Bool, true, false, List, ◌++◌, length, Contains, slice_get, if◌then◌else◌, Option, Some}
-use Rattle.es_model.specs.declared.declaration.System.{System}
+-- Applications that were opened.
+use Rattle.std.specs.Prelude.{◌≡◌, ◌<◌, ℕ, Bool, true, false, List, ◌++◌, slice_get, if◌then◌else◌, Option, Some}
 use Rattle.es_model.specs.declared.event.Recording.{Recording}
 use Rattle.es_model.specs.declared.snapshot.Snapshot.{Snapshot}
 use Rattle.es_model.specs.History.{Histories}
 use Rattle.es_model.specs.Values.{Name}
 use Rattle.es_io.specs.Readings.{Readings}
-use Rattle.es_decl.specs.Pairs.{pairs_of}
 use Rattle.es_process.specs.declared.application.Application.{Application}
 use Rattle.es_process.specs.Answer.{Options}
 use Rattle.es_process.specs.Applications.{name_of, recorder_of, turns_of, used_of}
 use Rattle.es_process.specs.Contents.{Contents}
-use Rattle.es_process.specs.Drains.{IsOnlyPair}
 use Rattle.es_process.specs.SingleThread.{is_among}
 use Rattle.es_process.specs.Standing.{State, Holds, AllStay, AreDistinct, faults_at, names_in}
-use Rattle.es_process.specs.SystemRules.{app_names}
-use Rattle.es_single.specs.Limits.{limits}
-use Rattle.es_single.specs.Runs.{AreEmpty}
-use Rattle.es_top.specs.declared.opening.Pairing.{Pairing}
-use Rattle.es_top.specs.declared.opening.Pairing.TheVariants.{Only, Several}
+use Rattle.es_top.specs.Limits.{limits}
 
 -- this at each of some names, and elsewhere what was there
 abbrev pub marked : (Name → Bool) → List Name → Bool → Name → Bool
@@ -79,29 +72,3 @@ pub record AreKept {R : Type 0} (history : R → Option (List Recording)) (capac
 -- some names are the first of these
 abbrev pub IsFrontOfNames : List Name → List Name → Type 0
 IsFrontOfNames front names = (rest : List Name) × (front ++ rest ≡ names)
-
--- one of these applications holds a recording
-abbrev pub IsOccupied : List Name → Histories → Type 0
-IsOccupied names h = (app : Name) × Contains names app × (0 < length (h app))
-
--- whether one holds a recording
-abbrev pub IsOccupiedTest : List Name → Histories → Bool → Type 0
-IsOccupiedTest names h true = IsOccupied names h
-IsOccupiedTest names h false = AreEmpty names h
-
--- the system has more than one pair
-abbrev pub is_beyond : System → Bool
-is_beyond sys = nat_lt 1 (length (pairs_of sys.pipes))
-
--- this stage doesn't run it: the system is beyond it, or an application holds a recording
-abbrev pub IsNotBuilt : System → Histories → Type 0
-IsNotBuilt sys h = (is_beyond sys ≡ true) ⊎ IsOccupied (app_names sys) h
-
--- this stage runs it
-abbrev pub IsBuilt : System → Histories → Type 0
-IsBuilt sys h = (is_beyond sys ≡ false) × AreEmpty (app_names sys) h
-
--- the one pair of a system or that it has none, with its applications at their places in its order; or that it has several
-abbrev pub IsPairing : System → Pairing → Type 0
-IsPairing sys (Only pair) = IsOnlyPair sys (app_names sys) pair × (is_beyond sys ≡ false)
-IsPairing sys Several = is_beyond sys ≡ true

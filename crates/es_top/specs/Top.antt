@@ -12,6 +12,7 @@ use Rattle.es_io.specs.Readings.{Readings}
 use Rattle.es_lines.specs.declared.ends.End.{End}
 use Rattle.es_lines.specs.declared.ends.End.TheVariants as end
 use Rattle.es_lines.specs.Texts.{end_text}
+use Rattle.es_process.specs.declared.ahead.Ahead.{Ahead}
 use Rattle.es_process.specs.Consistent.{IsConsistent}
 use Rattle.es_process.specs.Contents.{Contents}
 use Rattle.es_process.specs.Reached.{IsReached}
@@ -19,34 +20,31 @@ use Rattle.es_process.specs.Session.{IsSession, writes_in}
 use Rattle.es_process.specs.SingleThread.{Step, Run, added_counts, left_by, written_by, as_line}
 use Rattle.es_process.specs.Standing.{IsFrontOf}
 use Rattle.es_process.specs.SystemRules.{rules_of}
-use Rattle.es_single.specs.Limits.{limits, terms_of, lines_for}
-use Rattle.es_single.specs.Runs.{IsRunOf, ReadTo}
+use Rattle.es_top.specs.Limits.{limits, terms_of, lines_for}
+use Rattle.es_top.specs.Runs.{IsRunOf, ReadTo}
 use Rattle.es_top.specs.declared.status.Status.{Status}
 use Rattle.es_top.specs.declared.status.Status.TheVariants as status
 use Rattle.es_top.specs.Declares.{declares}
-use Rattle.es_single.specs.Ends.{Sort, itself, stopped, in_lines, unbuilt, unbegun, sort_of}
-use Rattle.es_top.specs.Ends.{ended, code_of}
-use Rattle.es_top.specs.Opened.{IsBuilt, IsNotBuilt}
+use Rattle.es_top.specs.Sorts.{Sort, itself, stopped, in_lines, unbegun, sort_of}
+use Rattle.es_top.specs.Ends.{ended, code_of, IsStopped}
 
--- the first steps of the run of an input were made, none where this stage doesn't run the system, and then this tail was written; `left` says what is held
+-- the first steps of the run of an input were made, and then this tail was written; `left` says what is held
 pub record Made (sys : System) (input : List ℕ) (readings : Readings) (opening : Contents) (left : Contents → Type 0) (before now : Option (List ℕ)) (tail : List ℕ) : Type 0 where
   pub run : Run
   pub done : List Step
   pub rest : List Step
   pub is : IsRunOf (terms_of sys) input readings opening run
   pub parts : run.steps ≡ done ++ rest
-  pub begun : IsBuilt sys opening.histories ⊎ (done ≡ [])
   pub held : left (left_by done opening)
   pub written : Appends before now (written_by done ++ tail)
 
 -- after which steps of a run an end may come, of which bytes these are left, and by what had to fail in the lines, the stores or the document
 module _ (lines stores document : Type 0) (sys : System) (input unread : List ℕ) (readings : Readings) (opening : Contents) (run : Run) (done rest : List Step) where
-  -- a run's own end after all its steps; want of memory after any, and a recorder's failing likewise; a failed reading after all steps of the lines that were taken whole; that the system isn't run, or that its document couldn't be read, after none
+  -- a run's own end after all its steps; want of memory after any, and a recorder's failing likewise; a failed reading after all steps of the lines that were taken whole; that its document couldn't be read, after none
   abbrev pub FollowsBy : Sort → End → Type 0
-  FollowsBy itself e = IsBuilt sys opening.histories × (rest ≡ []) × (run.end ≡ e)
+  FollowsBy itself e = (rest ≡ []) × (run.end ≡ e)
   FollowsBy stopped e = e ≡ end.Recorder → stores
   FollowsBy in_lines e = lines × ReadTo (terms_of sys) input readings opening (Some unread) done
-  FollowsBy unbuilt e = IsNotBuilt sys opening.histories × (done ≡ [])
   FollowsBy unbegun e = (e ≡ end.System) × document × (done ≡ [])
 
   abbrev pub Follows : End → Type 0
@@ -87,10 +85,10 @@ pub record LeavesConsistent (sys : System) (openings : Histories) (held : Option
   pub stores : held ≡ Some histories
   pub consistent : IsConsistent (rules_of sys) openings histories
 
--- a claim on what the stores hold, where it is told
-abbrev pub IfTold : Option Histories → (Histories → Type 0) → Type 0
-IfTold None P = Unit {0}
-IfTold (Some h) P = P h
+-- where a follower is ahead of its leader at the opening the status is that end, with this pair and both numbers, or that of want of memory, or of a document, a sink or a recorder that failed; and where none is ahead it isn't that end
+abbrev pub AheadExactly : Option Ahead → Status → Type 0
+AheadExactly (Some a) s = (s ≡ status.Ahead a.app a.leader a.tracked a.last) ⊎ (IsStopped s ⊎ (s ≡ status.Recorder))
+AheadExactly None s = (a : Ahead) → s ≡ status.Ahead a.app a.leader a.tracked a.last → ⊥
 
 -- what the stores hold at each name is as it was, where it is told
 abbrev pub IsLeft : {A : Type 0} → Option (Name → A) → Option (Name → A) → Type 0

@@ -5,10 +5,10 @@ ghost use Rattle.es_process.specs.SingleThread.{as_line};
 ghost use Rattle.es_top.specs.Ends.{ended, Writes, WritesLine};
 
 use crate::Status;
+use crate::serve::write_line;
 use es_io::Sink;
 use es_lines::{End, end_text, fixed_end_line};
 use es_model::{Bytes, Failed, NoMemory};
-use es_single::write_line;
 use std::alloc::Global;
 
 // The end line that tells want of memory.

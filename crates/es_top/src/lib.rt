@@ -4,6 +4,8 @@
 mod ending;
 mod loading;
 mod opening;
+mod running;
+mod serve;
 mod status;
 mod top;
 mod words;

@@ -1,88 +1,25 @@
-ghost use Rattle.std.specs.Prelude.{◌≡◌, ◌≤◌, ◌<◌, ◌∷◌, [], List, Contains, length, map, nat_lt, slice_get, Option, Some, IfSome, IfOk, OnOk, OnErr, IsErrOf, true, false, vec_capacity};
-ghost use Rattle.std.specs.List.{position};
-ghost use Rattle.std.specs.Str.{bytes_eq};
-ghost use Rattle.es_model.specs.declared.event.Recording.{Recording};
+ghost use Rattle.std.specs.Prelude.{◌≡◌, ◌≤◌, ◌<◌, [], List, length, map, Option, Some, IfSome, IfOk, OnOk, OnErr, IsErrOf, true, false, vec_capacity};
 ghost use Rattle.es_model.specs.declared.snapshot.Snapshot.{Snapshot};
 ghost use Rattle.es_model.specs.Causes.{CallHasCause, Rose};
 ghost use Rattle.es_model.specs.History.{Histories};
 ghost use Rattle.es_model.specs.Values.{Name};
-ghost use Rattle.es_expr.specs.Checked.{IsCheckedSystem};
 ghost use Rattle.es_io.specs.Readings.{Readings};
-ghost use Rattle.es_decl.specs.Pairs.{pairs_of};
 ghost use Rattle.es_recorder.specs.Held.{put, SameElsewhere, ClosesTold};
 ghost use Rattle.es_process.specs.Applications.{IsOpened, name_of, recorder_of};
 ghost use Rattle.es_process.specs.Contents.{Contents};
-ghost use Rattle.es_process.specs.Drains.{IsPairOf};
 ghost use Rattle.es_process.specs.SingleThread.{is_among};
-ghost use Rattle.es_process.specs.Standing.{Holds, IsSame, SomeRose, AreDistinct, names_in};
+ghost use Rattle.es_process.specs.Standing.{Holds, AreDistinct, names_in};
 ghost use Rattle.es_process.specs.SystemRules.{app_names};
-ghost use Rattle.es_single.specs.Limits.{limits};
-ghost use Rattle.es_single.specs.Runs.{state_of};
-ghost use Rattle.es_top.specs.Opened.{AreKept, AreOpened, AreHandedOut, ClosesEach, IsFrontOfNames, marked, HoldElsewhere, TellEach, AreFresh, IsUnused, SomeFailed, IsOccupiedTest, IsPairing};
+ghost use Rattle.es_top.specs.Limits.{limits};
+ghost use Rattle.es_top.specs.Runs.{state_of};
+ghost use Rattle.es_top.specs.Opened.{AreOpened, AreHandedOut, ClosesEach, IsFrontOfNames, marked, HoldElsewhere, TellEach, AreFresh, IsUnused, SomeFailed};
 ghost use Rattle.es_top.specs.Top.{IsLeft, StoresTell};
 
-use es_decl::pairs;
 use es_model::limits::{DEFAULT_TURNS, MOST_CAPACITY};
 use es_model::{App, CallFault, Duplicate, NoMemory, System, Text};
-use es_process::{Application, Pair};
+use es_process::Application;
 use es_recorder::{ProcessRecorder, Stores};
 use std::alloc::Global;
-
-/// Which applications of a system follow each other.
-#[derive(Debug, Drop)]
-pub enum Pairing {
-    /// There is one pair, or none.
-    Only(Option<Pair>),
-    /// There are more.
-    Several,
-}
-
-// The place of the first application of a name.
-fn position_of(apps: &[App], name: &Text) -> Option<usize>
-    ensures { result ≡ position (λ a. bytes_eq a.name name.now) apps.now }
-{
-    apps.iter()
-        .position(|app| app.name.as_str() == name.as_str())
-}
-
-// The place of an application of a name that is declared.
-fn place_of(apps: &[App], name: &Text) -> usize
-    requires { Contains (map (λ a. a.name) apps.now) name.now }
-    ensures { slice_get (map (λ a. a.name) apps.now) result ≡ Some name.now }
-{
-    position_of(apps, name).unwrap()
-}
-
-// The one pair of a system, with the places of its applications.
-fn pair_of(sys: &System, leader: &Text, follower: &Text) -> Result<Pair, NoMemory>
-    requires checked { IsCheckedSystem sys.now }
-    requires pairs { pairs_of sys.now.pipes ≡ (leader.now, follower.now) ∷ [] }
-    ensures { IfOk result (IsPairOf sys.now (app_names sys.now)) }
-{
-    let leader_name = leader.copy()?;
-    let follower_name = follower.copy()?;
-    Ok(Pair {
-        leader: place_of(sys.apps.as_slice(), leader),
-        follower: place_of(sys.apps.as_slice(), follower),
-        leader_name,
-        follower_name,
-    })
-}
-
-/// The one pair of leader and follower in the system, with their places, if it has no more.
-pub fn pairing_of(alloc: Global, sys: &System) -> Result<Pairing, NoMemory>
-    requires { IsCheckedSystem sys.now }
-    ensures { IfOk result (IsPairing sys.now) }
-{
-    let found = pairs(alloc, sys)?;
-    if found.len() > 1 {
-        return Ok(Pairing::Several);
-    }
-    match found.as_slice() {
-        [pair, ..] => Ok(Pairing::Only(Some(pair_of(sys, &pair.0, &pair.1)?))),
-        [] => Ok(Pairing::Only(None)),
-    }
-}
 
 // The application of a recorder that the stores handed out. Where memory is short they are given it back.
 fn begin_application<M: Stores>(
@@ -212,30 +149,4 @@ pub fn close_all<M: Stores>(stores: &mut M, declared: &[App], mut apps: Vec<Appl
         close_application(stores, &declared[apps.len()].name, app);
     }
     apps.destroy_empty();
-}
-
-// Whether one application holds a recording.
-fn is_used<R: ProcessRecorder>(app: &mut Application<R>) -> Result<bool, CallFault>
-    ensures told { (h : List Recording) → R.history (recorder_of app.old) ≡ Some h → IfOk result (λ used. used ≡ nat_lt 0 (length h)) }
-    ensures same { IsSame R.history R.capacity R.snapshots R.faults app.old app.new }
-    ensures cause { CallHasCause (R.faults (recorder_of app.old)) (R.faults (recorder_of app.new)) result }
-{
-    match app.recordings() {
-        Ok(count) => Ok(0 < count),
-        Err(fault) => Err(fault),
-    }
-}
-
-/// Whether an application holds a recording.
-pub fn is_occupied<R: ProcessRecorder>(apps: &mut [Application<R>]) -> Result<bool, CallFault>
-    ensures told { (h : Histories) → TellEach R.history h apps.old → IfOk result (IsOccupiedTest (names_in apps.old) h) }
-    ensures same { AreKept R.history R.capacity R.snapshots R.faults apps.old apps.new }
-    ensures recorder { IsErrOf result CallFault.Failed → SomeRose R.faults apps.old apps.new }
-{
-    for app in apps.iter_mut() {
-        if is_used(app)? {
-            return Ok(true);
-        }
-    }
-    Ok(false)
 }

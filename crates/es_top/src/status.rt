@@ -43,7 +43,12 @@ pub enum Status {
         capacity: u64,
     },
     Over,
-    NotBuilt,
+    Ahead {
+        app: Text,
+        leader: Text,
+        tracked: u64,
+        last: u64,
+    },
 }
 
 impl Status {
@@ -76,8 +81,46 @@ impl Status {
                 capacity: _,
             } => 12,
             Status::Over => 13,
-            Status::NotBuilt => 15,
+            Status::Ahead {
+                app: _,
+                leader: _,
+                tracked: _,
+                last: _,
+            } => 10,
         }
+    }
+}
+
+// The status of a follower that refused.
+fn refused_status(
+    app: Text,
+    leader: Text,
+    id: u64,
+    recordings: u64,
+    code: Text,
+    rule: u64,
+) -> Status
+    ensures { result ≡ Status.Refused app leader id recordings code rule }
+{
+    Status::Refused {
+        app,
+        leader,
+        id,
+        recordings,
+        code,
+        rule,
+    }
+}
+
+// The status of a follower that is ahead.
+fn ahead_status(app: Text, leader: Text, tracked: u64, last: u64) -> Status
+    ensures { result ≡ Status.Ahead app leader tracked last }
+{
+    Status::Ahead {
+        app,
+        leader,
+        tracked,
+        last,
     }
 }
 
@@ -103,14 +146,7 @@ impl From<End> for Status {
                 recordings,
                 code,
                 rule,
-            } => Status::Refused {
-                app,
-                leader,
-                id,
-                recordings,
-                code,
-                rule,
-            },
+            } => refused_status(app, leader, id, recordings, code, rule),
             End::Turns { app, turns } => Status::Turns { app, turns },
             End::Unreadable { app, id } => Status::Unreadable { app, id },
             End::Full {
@@ -123,7 +159,12 @@ impl From<End> for Status {
                 capacity,
             },
             End::Over => Status::Over,
-            End::NotBuilt => Status::NotBuilt,
+            End::Ahead {
+                app,
+                leader,
+                tracked,
+                last,
+            } => ahead_status(app, leader, tracked, last),
         }
     }
 }

@@ -1,9 +1,8 @@
-ghost use Rattle.std.specs.Prelude.{◌≡◌, ◌⊎◌, ◌≤◌, List, ℕ, Some, None, Ok, Err, IfOk, IfSome, OnErr, false};
+ghost use Rattle.std.specs.Prelude.{◌≡◌, ◌⊎◌, ◌≤◌, List, ℕ, Some, None, Ok, Err, IfOk, IfSome, OnErr};
 ghost use Rattle.std.specs.Io.KnownBytes.{Appends};
 ghost use Rattle.es_model.specs.Causes.{Rose};
 ghost use Rattle.es_model.specs.declared.declaration.Code.{Code};
 ghost use Rattle.es_model.specs.declared.declaration.System.{System as SystemOf};
-ghost use Rattle.es_model.specs.History.{Histories};
 ghost use Rattle.es_model.specs.Lines.{Line};
 ghost use Rattle.es_model.specs.Values.{Name};
 ghost use Rattle.es_expr.specs.Checked.{IsCheckedSystem};
@@ -14,90 +13,46 @@ ghost use Rattle.es_decl.specs.Readings.{Reading};
 ghost use Rattle.es_lines.specs.declared.ends.End.{End as EndOf};
 ghost use Rattle.es_lines.specs.Texts.{end_text as text_of_end};
 ghost use Rattle.es_process.specs.Contents.{Contents};
-ghost use Rattle.es_process.specs.Drains.{IsOnlyPair};
-ghost use Rattle.es_process.specs.SingleThread.{as_line, HasOneRun, start};
-ghost use Rattle.es_process.specs.Standing.{Holds, HoldContents, AllStay, SomeRose, names_in};
-ghost use Rattle.es_process.specs.SystemRules.{rules_of, app_names};
-ghost use Rattle.es_single.specs.Limits.{limits, TakesLines};
-ghost use Rattle.es_single.specs.Runs.{state_of};
-ghost use Rattle.es_single.specs.Traced.{OfInput};
+ghost use Rattle.es_process.specs.Reached.{ahead};
+ghost use Rattle.es_process.specs.SingleThread.{as_line, HasOneRunOver};
+ghost use Rattle.es_process.specs.SystemRules.{rules_of};
+ghost use Rattle.es_top.specs.Limits.{limits, TakesLines};
+ghost use Rattle.es_top.specs.Traced.{OfInput};
 ghost use Rattle.es_top.specs.Declares.{IsEndUnasked, declares, IsNotAsked};
-ghost use Rattle.es_single.specs.Ends.{itself, sort_of, unbegun};
+ghost use Rattle.es_top.specs.Sorts.{sort_of, unbegun};
 ghost use Rattle.es_top.specs.Ends.{end_of_load, ended, sorted, status_of_load, IsStopped, Writes};
 ghost use Rattle.es_top.specs.Loads.{TakesDocument};
-ghost use Rattle.es_top.specs.Opened.{AreTold, IsNotBuilt, IsBuilt, TellEach, is_beyond};
+ghost use Rattle.es_top.specs.inner.Begins.{AheadEnd};
 ghost use Rattle.es_top.specs.inner.Ran.{IsOfSystem, Stands};
-ghost use Rattle.es_top.specs.Top.{IfTold, IsLeft, LeavesConsistent, Ran, StoresTell, WhereDeclared};
+ghost use Rattle.es_top.specs.Top.{AheadExactly, LeavesConsistent, Ran, StoresTell, WhereDeclared};
 ghost use Rattle.es_top.specs.Words.{system_in};
 
 use crate::Status;
 use crate::ending::finish;
 use crate::loading::{LoadFault, load};
-use crate::opening::{Pairing, close_all, is_occupied, open_all, pairing_of};
+use crate::opening::{close_all, open_all};
+use crate::running::run;
 use crate::words::system_word;
 use es_io::{Clock, Document, Sink, Source};
 use es_lines::End;
-use es_model::{CallFault, Failed, NoMemory, System};
-use es_process::{Application, Pair};
-use es_recorder::{ProcessRecorder, Stores};
+use es_model::{CallFault, Failed, System};
+use es_recorder::Stores;
 use std::alloc::Global;
 
-// Runs over opened applications. This stage runs only where they hold nothing yet.
-fn run_opened<S: Source, T: Sink, R: ProcessRecorder, C: Clock>(
+// Runs a system over the stores: opens the applications, runs over them, and closes them.
+fn run_system<S: Source, T: Sink, M: Stores, C: Clock>(
     alloc: Global,
-    sys: &System,
-    pair: &Option<Pair>,
-    lines: &mut S,
-    out: &mut T,
-    apps: &mut [Application<R>],
-    clock: &mut C,
-) -> Result<End, Failed>
-    requires pair { IsOnlyPair sys.now (names_in apps.old) pair.now }
-    requires built { is_beyond sys.now ≡ false }
-    ensures stands { OfInput (S.left lines.old) (S.left lines.new) (C.readings clock.old) (λ i rest r. (opening : Contents) → Holds R.history R.snapshots R.capacity opening limits apps.old (Some r) (state_of opening r)
-        → Stands sys.now i rest r opening (HoldContents R.history R.snapshots opening apps.new) (T.written out.old) (T.written out.new) result) }
-    ensures of_system { IfOk result IsOfSystem }
-    ensures built { IfOk result (λ e. sort_of e ≡ itself → (h : Histories) → TellEach R.history h apps.old → IsBuilt sys.now h) }
-    ensures not_built { result ≡ Ok End.NotBuilt → (h : Histories) → TellEach R.history h apps.old → IsNotBuilt sys.now h }
-    ensures not_built_apps { result ≡ Ok End.NotBuilt → AreTold R.history R.snapshots apps.old apps.new }
-    ensures silent { result ≡ Ok End.NotBuilt → T.written out.new ≡ T.written out.old }
-    ensures out_later { T.faults out.old ≤ T.faults out.new }
-    ensures same { AllStay R.faults apps.old apps.new }
-    ensures bound { TakesLines (S.left lines.old) (S.left lines.new) }
-    ensures input { result ≡ Ok End.Input → Rose (S.faults lines.old) (S.faults lines.new) }
-    ensures sink { OnErr result (Rose (T.faults out.old) (T.faults out.new)) }
-    ensures recorder { result ≡ Ok End.Recorder → SomeRose R.faults apps.old apps.new }
-{
-    let occupied = match is_occupied(apps) {
-        Ok(occupied) => occupied,
-        Err(CallFault::Failed) => return Ok(End::Recorder),
-        Err(CallFault::NoMemory) => return Ok(End::Memory),
-    };
-    if occupied {
-        return Ok(End::NotBuilt);
-    }
-    es_single::run(alloc, sys, pair, lines, out, apps, clock)
-}
-
-// Opens the applications, runs over them, and closes them.
-fn run_pair<S: Source, T: Sink, M: Stores, C: Clock>(
-    alloc: Global,
-    sys: &System,
-    pair: &Option<Pair>,
+    sys: System,
     lines: &mut S,
     out: &mut T,
     stores: &mut M,
     clock: &mut C,
 ) -> Result<End, Failed>
-    requires pair { IsOnlyPair sys.now (app_names sys.now) pair.now }
-    requires built { is_beyond sys.now ≡ false }
+    requires { IsCheckedSystem sys }
     ensures stands { OfInput (S.left lines.old) (S.left lines.new) (C.readings clock.old) (λ i rest r. (opening : Contents) → StoresTell opening (M.held stores.old) (M.snapshots stores.old)
-        → Stands sys.now i rest r opening (λ c. StoresTell c (M.held stores.new) (M.snapshots stores.new)) (T.written out.old) (T.written out.new) result) }
+        → Stands sys i rest r opening (λ c. StoresTell c (M.held stores.new) (M.snapshots stores.new)) (T.written out.old) (T.written out.new) result) }
+    ensures ahead { (opening : Contents) → StoresTell opening (M.held stores.old) (M.snapshots stores.old) → IfOk result (AheadEnd (ahead (rules_of sys).pairs opening.histories)) }
     ensures of_system { IfOk result IsOfSystem }
-    ensures built { IfOk result (λ e. sort_of e ≡ itself → IfTold (M.held stores.old) (IsBuilt sys.now)) }
-    ensures not_built { result ≡ Ok End.NotBuilt → IfTold (M.held stores.old) (IsNotBuilt sys.now) }
-    ensures not_built_stores { result ≡ Ok End.NotBuilt → IsLeft (M.held stores.old) (M.held stores.new) × IsLeft (M.snapshots stores.old) (M.snapshots stores.new) }
-    ensures silent { result ≡ Ok End.NotBuilt → T.written out.new ≡ T.written out.old }
     ensures closed { (name : Name) → M.out stores.new name ≡ M.out stores.old name }
     ensures out_later { T.faults out.old ≤ T.faults out.new }
     ensures bound { TakesLines (S.left lines.old) (S.left lines.new) }
@@ -105,9 +60,9 @@ fn run_pair<S: Source, T: Sink, M: Stores, C: Clock>(
     ensures sink { OnErr result (Rose (T.faults out.old) (T.faults out.new)) }
     ensures recorder { result ≡ Ok End.Recorder → Rose (M.faults stores.old) (M.faults stores.new) }
 {
-    match open_all(alloc, stores, sys) {
-        Ok(mut apps) => {
-            let result = run_opened(alloc, sys, pair, lines, out, apps.as_mut_slice(), clock);
+    match open_all(alloc, stores, &sys) {
+        Ok(apps) => {
+            let (sys, apps, result) = run(alloc, sys, lines, out, apps, clock);
             close_all(stores, sys.apps.as_slice(), apps);
             result
         }
@@ -116,58 +71,24 @@ fn run_pair<S: Source, T: Sink, M: Stores, C: Clock>(
     }
 }
 
-// Runs a system over the stores. This stage runs one with at most one pair.
-fn run_system<S: Source, T: Sink, M: Stores, C: Clock>(
-    alloc: Global,
-    sys: &System,
-    lines: &mut S,
-    out: &mut T,
-    stores: &mut M,
-    clock: &mut C,
-) -> Result<End, Failed>
-    requires { IsCheckedSystem sys.now }
-    ensures stands { OfInput (S.left lines.old) (S.left lines.new) (C.readings clock.old) (λ i rest r. (opening : Contents) → StoresTell opening (M.held stores.old) (M.snapshots stores.old)
-        → Stands sys.now i rest r opening (λ c. StoresTell c (M.held stores.new) (M.snapshots stores.new)) (T.written out.old) (T.written out.new) result) }
-    ensures of_system { IfOk result IsOfSystem }
-    ensures built { IfOk result (λ e. sort_of e ≡ itself → IfTold (M.held stores.old) (IsBuilt sys.now)) }
-    ensures not_built { result ≡ Ok End.NotBuilt → IfTold (M.held stores.old) (IsNotBuilt sys.now) }
-    ensures not_built_stores { result ≡ Ok End.NotBuilt → IsLeft (M.held stores.old) (M.held stores.new) × IsLeft (M.snapshots stores.old) (M.snapshots stores.new) }
-    ensures silent { result ≡ Ok End.NotBuilt → T.written out.new ≡ T.written out.old }
-    ensures closed { (name : Name) → M.out stores.new name ≡ M.out stores.old name }
-    ensures out_later { T.faults out.old ≤ T.faults out.new }
-    ensures bound { TakesLines (S.left lines.old) (S.left lines.new) }
-    ensures input { result ≡ Ok End.Input → Rose (S.faults lines.old) (S.faults lines.new) }
-    ensures sink { OnErr result (Rose (T.faults out.old) (T.faults out.new)) }
-    ensures recorder { result ≡ Ok End.Recorder → Rose (M.faults stores.old) (M.faults stores.new) }
-{
-    match pairing_of(alloc, sys) {
-        Ok(Pairing::Only(pair)) => run_pair(alloc, sys, &pair, lines, out, stores, clock),
-        Ok(Pairing::Several) => Ok(End::NotBuilt),
-        Err(NoMemory) => Ok(End::Memory),
-    }
-}
-
 // Runs a system over the stores, and writes the end line.
 fn run_to_end<S: Source, T: Sink, M: Stores, C: Clock>(
     alloc: Global,
-    sys: &System,
+    sys: System,
     lines: &mut S,
     out: &mut T,
     stores: &mut M,
     clock: &mut C,
 ) -> Status
-    requires { IsCheckedSystem sys.now }
+    requires { IsCheckedSystem sys }
     ensures ran { (opening : Contents) → StoresTell opening (M.held stores.old) (M.snapshots stores.old) → OfInput (S.left lines.old) (S.left lines.new) (C.readings clock.old)
-        (λ i rest r. Ran (Rose (S.faults lines.old) (S.faults lines.new)) (Rose (M.faults stores.old) (M.faults stores.new)) ⊥ sys.now i rest r opening (M.held stores.new) (M.snapshots stores.new) (T.written out.old) (T.written out.new) result) }
+        (λ i rest r. Ran (Rose (S.faults lines.old) (S.faults lines.new)) (Rose (M.faults stores.old) (M.faults stores.new)) ⊥ sys i rest r opening (M.held stores.new) (M.snapshots stores.new) (T.written out.old) (T.written out.new) result) }
+    ensures ahead { (opening : Contents) → StoresTell opening (M.held stores.old) (M.snapshots stores.old) → AheadExactly (ahead (rules_of sys).pairs opening.histories) result }
     ensures begun { sorted result ≡ Some unbegun → ⊥ }
     ensures bound { TakesLines (S.left lines.old) (S.left lines.new) }
     ensures input { result ≡ Status.Input → Rose (S.faults lines.old) (S.faults lines.new) }
     ensures sink { result ≡ Status.Sink → Rose (T.faults out.old) (T.faults out.new) }
     ensures recorder { result ≡ Status.Recorder → Rose (M.faults stores.old) (M.faults stores.new) }
-    ensures built { sorted result ≡ Some itself → IfTold (M.held stores.old) (IsBuilt sys.now) }
-    ensures not_built { result ≡ Status.NotBuilt → IfTold (M.held stores.old) (IsNotBuilt sys.now) }
-    ensures not_built_stores { result ≡ Status.NotBuilt → IsLeft (M.held stores.old) (M.held stores.new) × IsLeft (M.snapshots stores.old) (M.snapshots stores.new) }
-    ensures not_built_line { result ≡ Status.NotBuilt → Appends (T.written out.old) (T.written out.new) (as_line (text_of_end End.NotBuilt)) }
     ensures closed { (name : Name) → M.out stores.new name ≡ M.out stores.old name }
 {
     match run_system(alloc, sys, lines, out, stores, clock) {
@@ -205,7 +126,8 @@ fn end_unloaded<T: Sink>(alloc: Global, out: &mut T, fault: LoadFault) -> Status
     finish(alloc, out, load_end(fault))
 }
 
-/// Runs a system on one thread over the lines of a source: all leaders are drained first, each line is
+/// Runs a system on one thread over the lines of a source and what the stores hold: where a follower is
+/// ahead of its leader the run ends at once; else all leaders are drained first, each line is
 /// answered on the sink before the next is read, after an accepted one its followers process what it
 /// added, and the end line tells how the run ended. The words are those after the program's name: `run`
 /// and the name of a system, which is `sample` or that of a document.
@@ -230,7 +152,7 @@ pub fn evsys_single<D: Document, S: Source, T: Sink, M: Stores, C: Clock>(
     ensures consistent { WhereDeclared (D.documents system.old) words.now (M.held stores.old) (M.snapshots stores.old) (λ sys opening. LeavesConsistent sys opening.histories (M.held stores.new)) }
 
     // Of any system, over any opening contents, clock readings and lines there is exactly one plain run.
-    ensures one_run { (sys : SystemOf) (opening : Contents) (readings : Readings) (lines : List Line) → HasOneRun (rules_of sys) limits opening.histories (start (rules_of sys) opening readings lines) }
+    ensures one_run { (sys : SystemOf) (opening : Contents) (readings : Readings) (lines : List Line) → HasOneRunOver (rules_of sys) limits opening readings lines }
 
     // Status 2: exactly the wrong words, but for a failing sink.
     ensures usage { result ≡ Status.Usage → system_in words.now ≡ None }
@@ -267,11 +189,8 @@ pub fn evsys_single<D: Document, S: Source, T: Sink, M: Stores, C: Clock>(
     ensures lines_bound { TakesLines (S.left lines.old) (S.left lines.new) }
     ensures document_bound { IfSome (system_in words.now) (λ name. TakesDocument (D.documents system.old) name (D.left system.old) (D.left system.new)) }
 
-    // Status 15: exactly where this stage doesn't run the system, or an opened store holds a recording. The stores stay so.
-    ensures built { (sys : SystemOf) → declares (D.documents system.old) words.now ≡ Some (Ok sys) → sorted result ≡ Some itself → IfTold (M.held stores.old) (IsBuilt sys) }
-    ensures not_built { (sys : SystemOf) → declares (D.documents system.old) words.now ≡ Some (Ok sys) → result ≡ Status.NotBuilt → IfTold (M.held stores.old) (IsNotBuilt sys) }
-    ensures not_built_stores { result ≡ Status.NotBuilt → IsLeft (M.held stores.old) (M.held stores.new) × IsLeft (M.snapshots stores.old) (M.snapshots stores.new) }
-    ensures not_built_line { result ≡ Status.NotBuilt → Appends (T.written out.old) (T.written out.new) (as_line (text_of_end End.NotBuilt)) }
+    // Status 10: exactly where a follower is ahead of its leader at the opening, unless something failed.
+    ensures ahead { WhereDeclared (D.documents system.old) words.now (M.held stores.old) (M.snapshots stores.old) (λ sys opening. AheadExactly (ahead (rules_of sys).pairs opening.histories) result) }
 
     // At every status each recorder that was opened is closed.
     ensures closed { (name : Name) → M.out stores.new name ≡ M.out stores.old name }
@@ -280,7 +199,7 @@ pub fn evsys_single<D: Document, S: Source, T: Sink, M: Stores, C: Clock>(
         return end_usage(alloc, out);
     };
     match load(alloc, system, name) {
-        Ok(sys) => run_to_end(alloc, &sys, lines, out, stores, clock),
+        Ok(sys) => run_to_end(alloc, sys, lines, out, stores, clock),
         Err(fault) => end_unloaded(alloc, out, fault),
     }
 }

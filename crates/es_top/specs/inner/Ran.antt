@@ -6,7 +6,7 @@ use Rattle.es_process.specs.Contents.{Contents}
 use Rattle.es_io.specs.Readings.{Readings}
 use Rattle.es_lines.specs.declared.ends.End.{End}
 use Rattle.es_process.specs.Standing.{IsFrontOf}
-use Rattle.es_single.specs.Ends.{unbegun, sort_of}
+use Rattle.es_top.specs.Sorts.{unbegun, sort_of}
 use Rattle.es_top.specs.Top.{Made, Follows}
 
 -- an end that comes after the system was read

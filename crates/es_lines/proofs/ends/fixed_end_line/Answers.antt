@@ -26,7 +26,3 @@ returns-in-Recorder-clause-line c = sym (ap (λ e. end_text e ++ 10 ∷ []) c.in
 pub returns-in-Over-clause-line : goal.returns-in-Over-clause-line
 unfolding escape_byte
 returns-in-Over-clause-line c = sym (ap (λ e. end_text e ++ 10 ∷ []) c.in-Over.is)
-
-pub returns-in-NotBuilt-clause-line : goal.returns-in-NotBuilt-clause-line
-unfolding escape_byte
-returns-in-NotBuilt-clause-line c = sym (ap (λ e. end_text e ++ 10 ∷ []) c.in-NotBuilt.is)

@@ -1,58 +1,51 @@
-use Rattle.std.proofs.Common.{arith, sym, subst, [], Some}
-use Rattle.es_process.specs.Drains.{IsOnlyPair}
-use Rattle.es_process.specs.Standing.{Holds, HoldContents}
+use Rattle.std.proofs.Common.{rules, [], ◌≡◌, All, Contains, Err, None, Some, sym, subst}
+use Rattle.es_process.specs.declared.faults.RunFault.TheVariants as fault
+use Rattle.es_process.specs.Drains.{ArePrompted, Drains}
+use Rattle.es_process.specs.Standing.{Holds, HoldContents, names_in}
 use Rattle.es_process.specs.SystemRules.{rules_of}
 use Rattle.es_process.specs.Terms.{terms}
-use Rattle.es_process.proofs.HoldsLemmas.{all-none, all-then, rose-then}
-use Rattle.es_process.proofs.StandingLemmas.{stays}
-use Rattle.es_process.proofs.PairLemmas.{drain_from, drain_then, drain_faulted, drained_all}
+use Rattle.es_process.proofs.HoldsLemmas.{held-contents}
+use Rattle.es_process.proofs.DrainedLemmas.{drained-reached}
+use Rattle.es_process.proofs.StandingLemmas.{cut_here}
 use Rattle.es_process.proofs.draining.drain.Goals as goal
 
-pub loop-leader-init : goal.loop-leader-init
-loop-leader-init g c = record {
-  drained = λ after may. (after, may, λ base options s u held. stays (terms (rules_of c.args.sys.now) options) s c.args.prompted.now [] _ u held);
-  same = all-none g.R.AggregateRecorder.faults c.args.apps.now;
-}
+pub places_of-requires : goal.places_of-requires
+places_of-requires g c = subst (All (Contains (names_in c.args.apps.now))) (sym c.as_slice.ensures) c.requires.declared
 
-pub drain_leader-requires : goal.drain_leader-requires
-drain_leader-requires g c = record { pair = subst (λ names. IsOnlyPair c.args.sys.now names c.args.pair.now) (sym c.loop-leader.invariant.same.names) c.requires.pair }
+pub returns-in_err-queue-clause-drained : goal.returns-in_err-queue-clause-drained
+returns-in_err-queue-clause-drained g c = λ after may. (
+  after,
+  may,
+  λ base options s u held.
+      let fails : c.from_residual.result ≡ Err fault.NoMemory = search rules in
+      subst (Drains (terms (rules_of c.args.sys.now) options) s (Holds g.R.AggregateRecorder.history g.R.AggregateRecorder.snapshots g.R.AggregateRecorder.capacity base options c.args.apps.now (Some after)) (HoldContents g.R.AggregateRecorder.history g.R.AggregateRecorder.snapshots base c.args.apps.now) c.args.prompted.now u) (sym fails)
+      (cut_here (terms (rules_of c.args.sys.now) options) s c.args.prompted.now [] _ u (held-contents g.R.AggregateRecorder.history g.R.AggregateRecorder.snapshots g.R.AggregateRecorder.capacity base options c.args.apps.now _ s held)),
+)
 
-pub loop-leader-preserved : goal.loop-leader-preserved
-loop-leader-preserved g c = record {
-  drained = λ after may. let y = (c.in-Ok.ensures {u = tt}).drained after may in let z = c.loop-leader.invariant.drained y.0 y.1 in (
-    z.0,
-    z.1,
-    λ base options s u held.
-        let x = drain_from (terms (rules_of c.args.sys.now) options) s _ c.args.prompted.now c.args.prompted.now u c.loop-leader.leader-index c.leader-item.result (omega (arith, c.loop-leader-test.true, c.loop-leader.auto.leader-index-end)) c.leader-item.is
-        (z.2 base options s u held) in
-        drain_then (terms (rules_of c.args.sys.now) options) s _ c.args.prompted.now c.leader-item.result _ u x _ (HoldContents g.R.AggregateRecorder.history g.R.AggregateRecorder.snapshots base c.drain_leader.new.apps) tt (y.2 base options x.state _ u x.held),
-  );
-  same = all-then c.loop-leader.invariant.same c.drain_leader.ensures.same;
-}
-
-pub returns-in-Err-clause-drained : goal.returns-in-Err-clause-drained
-returns-in-Err-clause-drained g c = λ after may.
-    let y = (c.in-Err.ensures {u = tt}).drained after may in let z = c.loop-leader.invariant.drained y.0 y.1 in (
-      z.0,
-      z.1,
-      λ base options s u held.
-          let x = drain_from (terms (rules_of c.args.sys.now) options) s _ c.args.prompted.now c.args.prompted.now u c.loop-leader.leader-index c.leader-item.result (omega (arith, c.loop-leader-test.true, c.loop-leader.auto.leader-index-end)) c.leader-item.is
-          (z.2 base options s u held) in
-          drain_faulted (terms (rules_of c.args.sys.now) options) s _ c.args.prompted.now c.leader-item.result _ u x
-          (Holds g.R.AggregateRecorder.history g.R.AggregateRecorder.snapshots g.R.AggregateRecorder.capacity base options c.drain_leader.new.apps (Some after)) _ c.in-Err.fault (y.2 base options x.state _ u x.held),
-    )
-
-pub returns-in-Err-clause-same : goal.returns-in-Err-clause-same
-returns-in-Err-clause-same g c = all-then c.loop-leader.invariant.same c.drain_leader.ensures.same
-
-pub returns-in-Err-clause-failed : goal.returns-in-Err-clause-failed
-returns-in-Err-clause-failed g c = λ is. rose-then g.R.AggregateRecorder.faults _ _ _ c.loop-leader.invariant.same.later ((c.in-Err.ensures {u = tt}).failed (cc is))
+pub returns-in_err-pairs-clause-drained : goal.returns-in_err-pairs-clause-drained
+returns-in_err-pairs-clause-drained g c = λ after may. (
+  after,
+  may,
+  λ base options s u held.
+      let fails : c.from_residual-in_err-pairs.result ≡ Err fault.NoMemory = search rules in
+      subst (Drains (terms (rules_of c.args.sys.now) options) s (Holds g.R.AggregateRecorder.history g.R.AggregateRecorder.snapshots g.R.AggregateRecorder.capacity base options c.args.apps.now (Some after)) (HoldContents g.R.AggregateRecorder.history g.R.AggregateRecorder.snapshots base c.args.apps.now) c.args.prompted.now u) (sym fails)
+      (cut_here (terms (rules_of c.args.sys.now) options) s c.args.prompted.now [] _ u (held-contents g.R.AggregateRecorder.history g.R.AggregateRecorder.snapshots g.R.AggregateRecorder.capacity base options c.args.apps.now _ s held)),
+)
 
 pub returns-clause-drained : goal.returns-clause-drained
 returns-clause-drained g c = λ after may.
-    let z = c.loop-leader.invariant.drained after may in (
-      z.0,
-      z.1,
-      λ base options s u held.
-          drained_all (terms (rules_of c.args.sys.now) options) s _ c.args.prompted.now u c.loop-leader.leader-index c.loop-leader-test.false (z.2 base options s u held),
+    let x = c.drain_with.ensures.drained after may in (
+      x.0,
+      x.1,
+      λ base options s u held. x.2 base options s c.args.prompted.now u held (subst (ArePrompted (names_in c.args.apps.now) c.in_ok-queue.queue.items) c.as_slice.ensures (c.in_ok-queue.ensures {u = tt})),
+    )
+
+pub returns-clause-reached : goal.returns-clause-reached
+returns-clause-reached g c = λ after may.
+    let x = c.drain_with.ensures.drained after may in (
+      x.0,
+      x.1,
+      λ base options s held all none.
+          drained-reached g.R.AggregateRecorder.history g.R.AggregateRecorder.snapshots g.R.AggregateRecorder.capacity base options c.drain_with.new.apps (Some after) (terms (rules_of c.args.sys.now) options) s c.args.prompted.now None c.drain_with.result
+          (x.2 base options s c.args.prompted.now None held (subst (ArePrompted (names_in c.args.apps.now) c.in_ok-queue.queue.items) c.as_slice.ensures (c.in_ok-queue.ensures {u = tt}))) all none,
     )

@@ -1,4 +1,7 @@
-use Rattle.std.proofs.Common.{◌∷◌}
+use Rattle.std.proofs.Common.{sym, subst, Some, ◌∷◌}
+use Rattle.es_process.specs.Drains.{ArePrompted}
+use Rattle.es_process.specs.inner.Following.{FollowsOne}
+use Rattle.es_process.specs.Standing.{Holds, HoldContents}
 use Rattle.es_process.specs.Terms.{terms}
 use Rattle.es_process.specs.SystemRules.{rules_of}
 use Rattle.es_process.proofs.HoldsLemmas.{held-contents, all-then, rose-then}
@@ -9,16 +12,19 @@ pub returns-in-Ok-None-clause-followed : goal.returns-in-Ok-None-clause-followed
 returns-in-Ok-None-clause-followed g c = λ after may. (
   after,
   may,
-  λ base options s prompted rest u held.
-      none_left (terms (rules_of c.args.sys.now) options) s c.args.pair.now c.requires.pair.pairs c.requires.pair.placed.apart prompted rest _ u
-      (rw c.in-Ok-None.field-0-is at ((c.in-Ok-None.ensures {u = tt}).found base options _ s held)) (c.next_of.ensures.holds base options _ s held),
+  λ base options s prompted rest u held are. (
+    prompted,
+    are,
+    none_left (terms (rules_of c.args.sys.now) options) s c.args.pair.now prompted rest _ u
+        (rw c.in-Ok-None.field-0-is at ((c.in-Ok-None.ensures {u = tt}).found base options _ s held)) (c.next_of.ensures.holds base options _ s held),
+  ),
 )
 
 pub returns-in-Err-clause-followed : goal.returns-in-Err-clause-followed
 returns-in-Err-clause-followed g c = λ after may. (
   after,
   may,
-  λ base options s prompted rest u held.
+  λ base options s prompted rest u held are.
       let still = c.next_of.ensures.holds base options _ s held in
       reading_failed (terms (rules_of c.args.sys.now) options) s prompted ((c.args.pair.now.leader_name, c.args.pair.now.follower_name) ∷ rest) c.in-Err.fault _ u (c.in-Err.ensures {u = tt}).faults
       (held-contents _ _ _ base options _ _ s still),
@@ -29,8 +35,9 @@ returns-in-Ok-Some-clause-followed g c = λ after may.
     let x = c.process_next.ensures.followed after may in (
       x.0,
       x.1,
-      λ base options s prompted rest u held.
-          x.2 base options s prompted rest u (c.next_of.ensures.holds base options _ s held) (rw c.in-Ok-Some.field-0-is at ((c.in-Ok-Some.ensures {u = tt}).found base options _ s held)),
+      λ base options s prompted rest u held are.
+          subst (λ ns. FollowsOne (terms (rules_of c.args.sys.now) options) s c.args.pair.now (Holds g.R.AggregateRecorder.history g.R.AggregateRecorder.snapshots g.R.AggregateRecorder.capacity base options c.process_next.new.apps (Some after)) (HoldContents g.R.AggregateRecorder.history g.R.AggregateRecorder.snapshots base c.process_next.new.apps) ns prompted c.process_next.new.queue.items rest u c.process_next.result) c.next_of.ensures.same.names
+          (x.2 base options s prompted rest u (c.next_of.ensures.holds base options _ s held) (subst (λ ns. ArePrompted ns c.args.queue.now.items prompted) (sym c.next_of.ensures.same.names) are) (rw c.in-Ok-Some.field-0-is at ((c.in-Ok-Some.ensures {u = tt}).found base options _ s held))),
     )
 
 pub returns-in-Ok-Some-clause-same : goal.returns-in-Ok-Some-clause-same

@@ -1,5 +1,5 @@
-use Rattle.std.proofs.Common.{rules, ◌<◌, length, slice_set}
-use Rattle.es_process.proofs.HoldsLemmas.{holds-same, all-set, rose-set}
+use Rattle.std.proofs.Common.{rules, ◌<◌, ◌∙◌, ap, Err, length, slice_set}
+use Rattle.es_process.proofs.HoldsLemmas.{call-failed, holds-same, all-set, rose-set}
 use Rattle.es_process.proofs.PlaceLemmas.{place-within, place-read, left-same, finds_pair, first-told, second-told, second-within, both-hold, both-stay, both-left, second-rose}
 use Rattle.es_process.proofs.draining.next_of.Goals as goal
 
@@ -17,7 +17,7 @@ returns-in-Err-clause-holds g c = λ base options readings s held.
 pub returns-in-Err-clause-same_turns : goal.returns-in-Err-clause-same_turns
 returns-in-Err-clause-same_turns g c =
     let at = place-read c.args.apps.now c.args.pair.now.follower c.args.pair.now.follower_name c.index-apps-pair.result c.requires.pair.placed.follower in
-    left-same c.args.apps.now c.args.pair.now.follower c.args.pair.now.follower _ c.tracked.new.self at c.tracked.ensures.same.stays.turns c.tracked.ensures.same.used
+    left-same c.args.apps.now c.args.pair.now.follower _ c.tracked.new.self at c.tracked.ensures.same.stays.turns c.tracked.ensures.same.used
 
 pub returns-in-Err-clause-same : goal.returns-in-Err-clause-same
 returns-in-Err-clause-same g c =
@@ -27,7 +27,7 @@ returns-in-Err-clause-same g c =
 pub returns-in-Err-clause-failed : goal.returns-in-Err-clause-failed
 returns-in-Err-clause-failed g c = λ is.
     let at = place-read c.args.apps.now c.args.pair.now.follower c.args.pair.now.follower_name c.index-apps-pair.result c.requires.pair.placed.follower in
-    rose-set g.R.AggregateRecorder.faults c.args.apps.now c.args.pair.now.follower _ c.tracked.new.self at ((c.in-Err.ensures {u = tt}).failed (cc is))
+    rose-set g.R.AggregateRecorder.faults c.args.apps.now c.args.pair.now.follower _ c.tracked.new.self at (c.tracked.ensures.cause.failed (c.in-Err.is ∙ ap (λ f. Err f) (call-failed c.in-Err.fault c.from.result c.from.ensures (cc is))))
 
 pub offset_bounds-apps-pair-2 : goal.offset_bounds-apps-pair-2
 offset_bounds-apps-pair-2 g c =
@@ -58,7 +58,7 @@ returns-clause-holds g c = λ base options readings s held.
 pub returns-clause-same_turns : goal.returns-clause-same_turns
 returns-clause-same_turns g c =
     both-left g.R.AggregateRecorder.history g.R.AggregateRecorder.capacity g.R.AggregateRecorder.snapshots g.R.AggregateRecorder.faults c.args.apps.now c.requires.pair.apps.distinct c.args.pair.now.follower c.args.pair.now.leader c.args.pair.now.follower_name c.args.pair.now.leader_name c.index-apps-pair.result c.index-apps-pair-2.result c.tracked.new.self c.next_after.new.self
-    c.requires.pair.placed.follower c.requires.pair.placed.leader c.tracked.ensures.same c.next_after.ensures.same c.args.pair.now.follower
+    c.requires.pair.placed.follower c.requires.pair.placed.leader c.tracked.ensures.same c.next_after.ensures.same
 
 pub returns-clause-same : goal.returns-clause-same
 returns-clause-same g c =

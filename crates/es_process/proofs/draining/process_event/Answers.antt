@@ -1,12 +1,15 @@
-use Rattle.std.proofs.Common.{rules, Some, ◌<◌, Ok, Err, length, sym, subst}
-use Rattle.es_process.specs.declared.application.Processed.TheVariants.{Recorded, Skipped, Gap}
+use Rattle.std.proofs.Common.{rules, ◌≡◌, Some, ◌<◌, ◌≤◌, ◌+◌, Ok, Err, length, slice_set, sym, subst}
+use Rattle.es_process.specs.declared.application.Processed.TheVariants.{Skipped, Gap}
+use Rattle.es_process.specs.declared.faults.RunFault.TheVariants as fault
 use Rattle.es_process.specs.Decision.{logs_of}
+use Rattle.es_process.specs.inner.Following.{CameTo, FollowsOne, trying}
 use Rattle.es_process.specs.Leaves.{IsRecorded}
+use Rattle.es_process.specs.Standing.{Holds, HoldContents, names_in}
 use Rattle.es_process.specs.SystemRules.{rules_of}
 use Rattle.es_process.specs.Terms.{terms}
 use Rattle.es_process.proofs.HoldsLemmas.{held-contents, all-set, rose-set}
-use Rattle.es_process.proofs.PairLemmas.{history_in, snapshots_in, one_recorded, one_faulted, not_skipped, not_gap}
-use Rattle.es_process.proofs.PlaceLemmas.{place-within, at_follower, follower-declared, entry-means, follower-told, follower-kept, processed-told, follower-recorded, follower-still, follower-more, left-fewer}
+use Rattle.es_process.proofs.PairLemmas.{history_in, snapshots_in, one_faulted, not_skipped, not_gap, one-longer}
+use Rattle.es_process.proofs.PlaceLemmas.{place-within, at_follower, follower-declared, entry-means, follower-told, follower-kept, processed-told, recorded-came, recorded-starved, follower-still, follower-more, left-fewer}
 use Rattle.es_process.proofs.draining.process_event.Goals as goal
 
 pub offset_bounds-apps-pair : goal.offset_bounds-apps-pair
@@ -18,30 +21,46 @@ bounds-apps-pair g c = place-within c.args.apps.now c.args.pair.now.follower _ c
 pub process-requires-clause-app : goal.process-requires-clause-app
 process-requires-clause-app g c = follower-declared c.args.sys.now c.args.apps.now c.args.pair.now c.requires.pair c.index-apps-pair.result
 
-pub returns-in-Ok-Recorded-clause-followed : goal.returns-in-Ok-Recorded-clause-followed
-returns-in-Ok-Recorded-clause-followed g c = λ after may.
+pub returns-in_ok-prompt_after-in-Ok-Recorded-clause-followed : goal.returns-in_ok-prompt_after-in-Ok-Recorded-clause-followed
+returns-in_ok-prompt_after-in-Ok-Recorded-clause-followed g c = λ after may.
     let x = (c.in-Ok-Recorded.ensures {u = tt}).processed after may in (
       x.0,
       x.1,
-      λ base options s prompted rest u held next.
-          let so = processed-told c.args.sys.now c.args.apps.now c.args.pair.now c.requires.pair c.index-apps-pair.result g.R.AggregateRecorder.history g.R.AggregateRecorder.snapshots g.R.AggregateRecorder.capacity base options _ s held c.args.notification.now next (Ok (Recorded c.in-Ok-Recorded.field-0-0 c.in-Ok-Recorded.field-0-1)) _ _ _ _
+      λ base options s prompted rest u held are next.
+          subst (λ q. CameTo (terms (rules_of c.args.sys.now) options) (trying s c.args.pair.now prompted rest) (Holds g.R.AggregateRecorder.history g.R.AggregateRecorder.snapshots g.R.AggregateRecorder.capacity base options (slice_set c.args.apps.now c.args.pair.now.follower c.process.new.self) (Some after)) (names_in c.args.apps.now) q u (λ place later. trying place c.args.pair.now later rest)) (sym (c.in_ok-prompt_after-in-Ok-Recorded.ensures {u = tt}))
+          (recorded-came c.args.sys.now c.args.apps.now c.args.pair.now c.requires.pair c.index-apps-pair.result g.R.AggregateRecorder.history g.R.AggregateRecorder.snapshots g.R.AggregateRecorder.capacity base options _ s held c.args.notification.now next c.process.new.self c.process.ensures.same _ _ _
           (rw c.in-Ok-Recorded.field-0-is at (x.2 (logs_of s.contents.histories) (history_in s c.args.pair.now) (snapshots_in s c.args.pair.now) s.readings (entry-means c.args.sys.now c.args.apps.now c.args.pair.now c.requires.pair c.index-apps-pair.result g.R.AggregateRecorder.history g.R.AggregateRecorder.snapshots g.R.AggregateRecorder.capacity base options _ s held c.args.notification.now next c.args.event.now c.requires.means)
-          (follower-told c.args.sys.now c.args.apps.now c.args.pair.now c.requires.pair c.index-apps-pair.result g.R.AggregateRecorder.history g.R.AggregateRecorder.snapshots g.R.AggregateRecorder.capacity base options _ s held c.args.notification.now next) (follower-kept c.args.sys.now c.args.apps.now c.args.pair.now c.requires.pair c.index-apps-pair.result g.R.AggregateRecorder.history g.R.AggregateRecorder.snapshots g.R.AggregateRecorder.capacity base options _ s held c.args.notification.now next) held.clock)) in
-          one_recorded (terms (rules_of c.args.sys.now) options) s c.args.pair.now c.requires.pair.pairs c.requires.pair.placed.apart prompted rest _ u _ _ _ _ _ _ _ next.0 so
-          (λ r ss added counted read. follower-recorded c.args.apps.now c.requires.pair.apps.distinct c.args.pair.now _ c.process.new.self c.requires.pair.placed.follower (at_follower c.args.sys.now c.args.apps.now c.args.pair.now c.requires.pair c.index-apps-pair.result) c.process.ensures.same.name g.R.AggregateRecorder.history g.R.AggregateRecorder.snapshots base g.R.AggregateRecorder.capacity options _ _ s r ss held c.process.ensures.same.room c.process.ensures.same.turns added counted read),
+          (follower-told c.args.sys.now c.args.apps.now c.args.pair.now c.requires.pair c.index-apps-pair.result g.R.AggregateRecorder.history g.R.AggregateRecorder.snapshots g.R.AggregateRecorder.capacity base options _ s held c.args.notification.now next) (follower-kept c.args.sys.now c.args.apps.now c.args.pair.now c.requires.pair c.index-apps-pair.result g.R.AggregateRecorder.history g.R.AggregateRecorder.snapshots g.R.AggregateRecorder.capacity base options _ s held c.args.notification.now next) held.clock))
+          prompted rest u c.args.queue.now.items are),
     )
 
-pub returns-in-Ok-Recorded-clause-counted : goal.returns-in-Ok-Recorded-clause-counted
-returns-in-Ok-Recorded-clause-counted g c = λ is.
-    let recorded = subst (λ x. IsRecorded (Ok x)) (sym c.in-Ok-Recorded.field-0-is) tt in
-    left-fewer c.args.apps.now c.args.pair.now.follower _ c.process.new.self (at_follower c.args.sys.now c.args.apps.now c.args.pair.now c.requires.pair c.index-apps-pair.result) c.process.ensures.same.turns ((c.in-Ok-Recorded.ensures {u = tt}).counted recorded) ((c.in-Ok-Recorded.ensures {u = tt}).free recorded)
+pub returns-in_err-prompt_after-in-Ok-Recorded-clause-followed : goal.returns-in_err-prompt_after-in-Ok-Recorded-clause-followed
+returns-in_err-prompt_after-in-Ok-Recorded-clause-followed g c = λ after may.
+    let x = (c.in-Ok-Recorded.ensures {u = tt}).processed after may in (
+      x.0,
+      x.1,
+      λ base options s prompted rest u held are next.
+          let fails : c.from_residual.result ≡ Err fault.NoMemory = search rules in
+          subst (λ r. FollowsOne (terms (rules_of c.args.sys.now) options) s c.args.pair.now (Holds g.R.AggregateRecorder.history g.R.AggregateRecorder.snapshots g.R.AggregateRecorder.capacity base options (slice_set c.args.apps.now c.args.pair.now.follower c.process.new.self) (Some after)) (HoldContents g.R.AggregateRecorder.history g.R.AggregateRecorder.snapshots base (slice_set c.args.apps.now c.args.pair.now.follower c.process.new.self)) (names_in c.args.apps.now) prompted c.prompt_after.new.queue.items rest u r) (sym fails)
+          (recorded-starved c.args.sys.now c.args.apps.now c.args.pair.now c.requires.pair c.index-apps-pair.result g.R.AggregateRecorder.history g.R.AggregateRecorder.snapshots g.R.AggregateRecorder.capacity base options _ s held c.args.notification.now next c.process.new.self c.process.ensures.same _ _ _
+          (rw c.in-Ok-Recorded.field-0-is at (x.2 (logs_of s.contents.histories) (history_in s c.args.pair.now) (snapshots_in s c.args.pair.now) s.readings (entry-means c.args.sys.now c.args.apps.now c.args.pair.now c.requires.pair c.index-apps-pair.result g.R.AggregateRecorder.history g.R.AggregateRecorder.snapshots g.R.AggregateRecorder.capacity base options _ s held c.args.notification.now next c.args.event.now c.requires.means)
+          (follower-told c.args.sys.now c.args.apps.now c.args.pair.now c.requires.pair c.index-apps-pair.result g.R.AggregateRecorder.history g.R.AggregateRecorder.snapshots g.R.AggregateRecorder.capacity base options _ s held c.args.notification.now next) (follower-kept c.args.sys.now c.args.apps.now c.args.pair.now c.requires.pair c.index-apps-pair.result g.R.AggregateRecorder.history g.R.AggregateRecorder.snapshots g.R.AggregateRecorder.capacity base options _ s held c.args.notification.now next) held.clock))
+          prompted rest u),
+    )
+
+pub returns-in_ok-prompt_after-in-Ok-Recorded-clause-spent : goal.returns-in_ok-prompt_after-in-Ok-Recorded-clause-spent
+returns-in_ok-prompt_after-in-Ok-Recorded-clause-spent g c =
+    let recorded = subst (λ x. IsRecorded (Ok x)) (sym c.in-Ok-Recorded.field-0-is) tt in (
+      left-fewer c.args.apps.now c.args.pair.now.follower _ c.process.new.self (at_follower c.args.sys.now c.args.apps.now c.args.pair.now c.requires.pair c.index-apps-pair.result) c.process.ensures.same.turns ((c.in-Ok-Recorded.ensures {u = tt}).counted recorded) ((c.in-Ok-Recorded.ensures {u = tt}).free recorded),
+      subst (λ q. length q ≤ length c.args.queue.now.items + 1) (sym (c.in_ok-prompt_after-in-Ok-Recorded.ensures {u = tt})) (one-longer c.args.pair.now c.args.queue.now.items _ _),
+    )
 
 pub returns-in-Ok-Skipped-clause-followed : goal.returns-in-Ok-Skipped-clause-followed
 returns-in-Ok-Skipped-clause-followed g c = λ after may.
     let x = (c.in-Ok-Skipped.ensures {u = tt}).processed after may in (
       x.0,
       x.1,
-      λ base options s prompted rest u held next.
+      λ base options s prompted rest u held are next.
           let so = processed-told c.args.sys.now c.args.apps.now c.args.pair.now c.requires.pair c.index-apps-pair.result g.R.AggregateRecorder.history g.R.AggregateRecorder.snapshots g.R.AggregateRecorder.capacity base options _ s held c.args.notification.now next (Ok (Skipped c.in-Ok-Skipped.field-0-0)) _ _ _ _
           (rw c.in-Ok-Skipped.field-0-is at (x.2 (logs_of s.contents.histories) (history_in s c.args.pair.now) (snapshots_in s c.args.pair.now) s.readings (entry-means c.args.sys.now c.args.apps.now c.args.pair.now c.requires.pair c.index-apps-pair.result g.R.AggregateRecorder.history g.R.AggregateRecorder.snapshots g.R.AggregateRecorder.capacity base options _ s held c.args.notification.now next c.args.event.now c.requires.means)
           (follower-told c.args.sys.now c.args.apps.now c.args.pair.now c.requires.pair c.index-apps-pair.result g.R.AggregateRecorder.history g.R.AggregateRecorder.snapshots g.R.AggregateRecorder.capacity base options _ s held c.args.notification.now next) (follower-kept c.args.sys.now c.args.apps.now c.args.pair.now c.requires.pair c.index-apps-pair.result g.R.AggregateRecorder.history g.R.AggregateRecorder.snapshots g.R.AggregateRecorder.capacity base options _ s held c.args.notification.now next) held.clock)) in
@@ -53,7 +72,7 @@ returns-in-Ok-Gap-clause-followed g c = λ after may.
     let x = (c.in-Ok-Gap.ensures {u = tt}).processed after may in (
       x.0,
       x.1,
-      λ base options s prompted rest u held next.
+      λ base options s prompted rest u held are next.
           let so = processed-told c.args.sys.now c.args.apps.now c.args.pair.now c.requires.pair c.index-apps-pair.result g.R.AggregateRecorder.history g.R.AggregateRecorder.snapshots g.R.AggregateRecorder.capacity base options _ s held c.args.notification.now next (Ok (Gap c.in-Ok-Gap.field-0-0)) _ _ _ _
           (rw c.in-Ok-Gap.field-0-is at (x.2 (logs_of s.contents.histories) (history_in s c.args.pair.now) (snapshots_in s c.args.pair.now) s.readings (entry-means c.args.sys.now c.args.apps.now c.args.pair.now c.requires.pair c.index-apps-pair.result g.R.AggregateRecorder.history g.R.AggregateRecorder.snapshots g.R.AggregateRecorder.capacity base options _ s held c.args.notification.now next c.args.event.now c.requires.means)
           (follower-told c.args.sys.now c.args.apps.now c.args.pair.now c.requires.pair c.index-apps-pair.result g.R.AggregateRecorder.history g.R.AggregateRecorder.snapshots g.R.AggregateRecorder.capacity base options _ s held c.args.notification.now next) (follower-kept c.args.sys.now c.args.apps.now c.args.pair.now c.requires.pair c.index-apps-pair.result g.R.AggregateRecorder.history g.R.AggregateRecorder.snapshots g.R.AggregateRecorder.capacity base options _ s held c.args.notification.now next) held.clock)) in
@@ -65,16 +84,20 @@ returns-in-Err-clause-followed g c = λ after may.
     let x = (c.in-Err.ensures {u = tt}).processed after may in (
       x.0,
       x.1,
-      λ base options s prompted rest u held next.
+      λ base options s prompted rest u held are next.
           let before = held-contents g.R.AggregateRecorder.history g.R.AggregateRecorder.snapshots g.R.AggregateRecorder.capacity base options c.args.apps.now _ s held in
-          one_faulted (terms (rules_of c.args.sys.now) options) s c.args.pair.now c.requires.pair.pairs c.requires.pair.placed.apart prompted rest u _ _ _ _ next.0 (λ same. follower-still c.args.apps.now c.requires.pair.apps.distinct c.args.pair.now _ c.process.new.self c.requires.pair.placed.follower (at_follower c.args.sys.now c.args.apps.now c.args.pair.now c.requires.pair c.index-apps-pair.result) c.process.ensures.same.name g.R.AggregateRecorder.history g.R.AggregateRecorder.snapshots base s.contents before same) (λ r ss one. follower-more c.args.apps.now c.requires.pair.apps.distinct c.args.pair.now _ c.process.new.self c.requires.pair.placed.follower (at_follower c.args.sys.now c.args.apps.now c.args.pair.now c.requires.pair c.index-apps-pair.result) c.process.ensures.same.name g.R.AggregateRecorder.history g.R.AggregateRecorder.snapshots base s.contents r ss before one) c.in-Err.fault c.process.new.self.used (Some after)
+          one_faulted (terms (rules_of c.args.sys.now) options) s c.args.pair.now prompted rest u _ _ _ _ next.0 (λ same. follower-still c.args.apps.now c.requires.pair.apps.distinct c.args.pair.now _ c.process.new.self c.requires.pair.placed.follower (at_follower c.args.sys.now c.args.apps.now c.args.pair.now c.requires.pair c.index-apps-pair.result) c.process.ensures.same.name g.R.AggregateRecorder.history g.R.AggregateRecorder.snapshots base s.contents before same) (λ r ss one. follower-more c.args.apps.now c.requires.pair.apps.distinct c.args.pair.now _ c.process.new.self c.requires.pair.placed.follower (at_follower c.args.sys.now c.args.apps.now c.args.pair.now c.requires.pair c.index-apps-pair.result) c.process.ensures.same.name g.R.AggregateRecorder.history g.R.AggregateRecorder.snapshots base s.contents r ss before one) c.in-Err.fault c.process.new.self.used (Some after)
           (processed-told c.args.sys.now c.args.apps.now c.args.pair.now c.requires.pair c.index-apps-pair.result g.R.AggregateRecorder.history g.R.AggregateRecorder.snapshots g.R.AggregateRecorder.capacity base options _ s held c.args.notification.now next (Err c.in-Err.fault) _ _ c.process.new.self.used (Some after)
           (x.2 (logs_of s.contents.histories) (history_in s c.args.pair.now) (snapshots_in s c.args.pair.now) s.readings (entry-means c.args.sys.now c.args.apps.now c.args.pair.now c.requires.pair c.index-apps-pair.result g.R.AggregateRecorder.history g.R.AggregateRecorder.snapshots g.R.AggregateRecorder.capacity base options _ s held c.args.notification.now next c.args.event.now c.requires.means)
           (follower-told c.args.sys.now c.args.apps.now c.args.pair.now c.requires.pair c.index-apps-pair.result g.R.AggregateRecorder.history g.R.AggregateRecorder.snapshots g.R.AggregateRecorder.capacity base options _ s held c.args.notification.now next) (follower-kept c.args.sys.now c.args.apps.now c.args.pair.now c.requires.pair c.index-apps-pair.result g.R.AggregateRecorder.history g.R.AggregateRecorder.snapshots g.R.AggregateRecorder.capacity base options _ s held c.args.notification.now next) held.clock)),
     )
 
-pub returns-in-Ok-Recorded-clause-same : goal.returns-in-Ok-Recorded-clause-same
-returns-in-Ok-Recorded-clause-same g c =
+pub returns-in_ok-prompt_after-in-Ok-Recorded-clause-same : goal.returns-in_ok-prompt_after-in-Ok-Recorded-clause-same
+returns-in_ok-prompt_after-in-Ok-Recorded-clause-same g c =
+    all-set c.args.apps.now c.requires.pair.apps.distinct c.args.pair.now.follower _ c.process.new.self (at_follower c.args.sys.now c.args.apps.now c.args.pair.now c.requires.pair c.index-apps-pair.result) c.process.ensures.same
+
+pub returns-in_err-prompt_after-in-Ok-Recorded-clause-same : goal.returns-in_err-prompt_after-in-Ok-Recorded-clause-same
+returns-in_err-prompt_after-in-Ok-Recorded-clause-same g c =
     all-set c.args.apps.now c.requires.pair.apps.distinct c.args.pair.now.follower _ c.process.new.self (at_follower c.args.sys.now c.args.apps.now c.args.pair.now c.requires.pair c.index-apps-pair.result) c.process.ensures.same
 
 pub returns-in-Ok-Skipped-clause-same : goal.returns-in-Ok-Skipped-clause-same

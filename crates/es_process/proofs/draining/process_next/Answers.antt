@@ -12,7 +12,7 @@ pub returns-in-Err-clause-followed : goal.returns-in-Err-clause-followed
 returns-in-Err-clause-followed g c = λ after may. (
   after,
   may,
-  λ base options s prompted rest u held next.
+  λ base options s prompted rest u held are next.
       no-turn c.args.sys.now c.args.apps.now c.args.pair.now c.requires.pair c.index-apps-pair.result g.R.AggregateRecorder.history g.R.AggregateRecorder.snapshots g.R.AggregateRecorder.capacity base options _ s held c.args.notification.now next prompted rest u c.in-Err.fault
       (c.in-Err.ensures {u = tt}).used,
 )
@@ -21,7 +21,7 @@ pub returns-in-Err-convert-clause-followed : goal.returns-in-Err-convert-clause-
 returns-in-Err-convert-clause-followed g c = λ after may. (
   after,
   may,
-  λ base options s prompted rest u held next.
+  λ base options s prompted rest u held are next.
       not-converted c.args.sys.now c.args.apps.now c.args.pair.now c.requires.pair c.index-apps-pair.result g.R.AggregateRecorder.history g.R.AggregateRecorder.snapshots g.R.AggregateRecorder.capacity base options _ s held c.args.notification.now next prompted rest u
       (c.in-Ok.ensures {u = tt}).left c.in-Err-convert.fault (c.in-Err-convert.ensures {u = tt}).converts,
 )

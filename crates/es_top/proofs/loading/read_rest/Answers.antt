@@ -1,7 +1,7 @@
 use Rattle.std.proofs.Common.{inr, length, ap, sym, subst, arith, length-append, length-drop, length-take}
 use Rattle.std.specs.Io.KnownBytes.{Consumes}
 use Rattle.es_io.proofs.LinesLemmas.{TakesAtMost-none, TakesAtMost-then}
-use Rattle.es_single.proofs.TakenLemmas.{takes_less}
+use Rattle.es_top.proofs.TakenLemmas.{takes_less}
 use Rattle.es_top.proofs.LoadingLemmas.{consumes_nothing, reads_more, read_size, piece_taken}
 use Rattle.es_top.proofs.loading.read_rest.Goals as goal
 

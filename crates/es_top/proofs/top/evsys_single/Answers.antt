@@ -1,54 +1,45 @@
-use Rattle.std.proofs.Common.{rules, inr, inl, ◌≡◌, ◌⊎◌, ◌∙◌, pos, ℕ, List, [], Some, Ok, Option, IfSome, refl, sym, subst, ap, Err}
+use Rattle.std.proofs.Common.{rules, ◌≡◌, pos, ℕ, List, [], None, Some, Ok, Option, IfSome, refl, sym, subst, ap, Err}
 use Rattle.es_model.specs.Causes.{Rose}
 use Rattle.es_model.specs.declared.declaration.System.{System}
 use Rattle.es_model.specs.Values.{Name}
 use Rattle.es_io.specs.Readings.{Readings}
 use Rattle.es_process.specs.Contents.{Contents}
+use Rattle.es_process.specs.Reached.{ahead}
 use Rattle.es_process.specs.SystemRules.{rules_of}
-use Rattle.es_process.proofs.DrainLemmas.{run-exists}
-use Rattle.es_single.specs.Limits.{limits}
-use Rattle.es_single.specs.Traced.{OfInput}
-use Rattle.es_single.proofs.TakenLemmas.{took_nothing}
+use Rattle.es_process.proofs.RunOverLemmas.{one_run_over}
+use Rattle.es_top.specs.Limits.{limits}
+use Rattle.es_top.specs.Traced.{OfInput}
+use Rattle.es_top.proofs.TakenLemmas.{took_nothing}
 use Rattle.es_lines.specs.declared.ends.End.TheVariants as end
-use Rattle.es_top.specs.Declares.{IsEndUnasked, declares}
-use Rattle.es_single.specs.Ends.{Sort, itself, stopped, unbuilt}
-use Rattle.es_top.specs.Ends.{end_of_load, ended, sorted, Writes}
+use Rattle.es_top.specs.Declares.{IsEndUnasked, declares, declares_for}
+use Rattle.es_top.specs.Ends.{end_of_load, ended, Writes}
 use Rattle.es_top.specs.Loads.{TakesDocument}
-use Rattle.es_top.specs.Opened.{IsBuilt, IsNotBuilt}
-use Rattle.es_top.specs.Top.{IfTold, Ran, StoresTell}
-use Rattle.es_top.proofs.EndLemmas.{early_front, of_sort, ran_consistent, ran_weaker, usage_front, writes_so}
-use Rattle.es_top.proofs.DeclaresLemmas.{asked, fault_ran, fault_unasked, load_sort, loaded_same, refused_so}
+use Rattle.es_top.specs.Top.{AheadExactly, Ran, StoresTell}
+use Rattle.es_top.proofs.EndLemmas.{ahead_cut, early_front, ran_consistent, ran_weaker, usage_front, writes_so}
+use Rattle.es_top.proofs.DeclaresLemmas.{asked, fault_ran, fault_unasked, loaded_same, refused_so, stopped_fault}
 use Rattle.es_top.proofs.TopLemmas.{of_input, of_then}
 use Rattle.es_top.proofs.top.evsys_single.Given as given
 use Rattle.es_top.proofs.top.evsys_single.Goals as goal
 
 -- the system that was loaded is the one that the words ask for
-same_system : (g : given.Over) (c : goal.After-drop-sys-in-Ok-2 g) (sys : System) → declares (g.D.Source.documents c.args.system.now) c.args.words.now ≡ Some (Ok sys) → c.in-Ok.sys ≡ sys
+same_system : (g : given.Over) (c : goal.After-run_to_end g) (sys : System) → declares (g.D.Source.documents c.args.system.now) c.args.words.now ≡ Some (Ok sys) → c.in-Ok.sys ≡ sys
 same_system g c sys is = loaded_same (g.D.Source.documents c.args.system.now) c.args.words.now c.in-Some.name.now (sym (c.in-Some.ensures {u = tt})) c.in-Ok.sys sys (c.in-Ok.ensures {u = tt}).loads is
 
 -- the line of the end of a run whose system couldn't be loaded
 line_told : (g : given.Over) (c : goal.After-end_unloaded g) → Writes (end_of_load c.in-Err.fault) (g.T.Sink.written c.args.out.now) (g.T.Sink.written c.end_unloaded.new.out) (ended c.end_unloaded.result)
 line_told g c = c.end_unloaded.ensures.told
 
--- such an end is none of these
-not_stopped : (k : Sort) → stopped ≡ k → (k ≡ itself) ⊎ (k ≡ unbuilt) → ⊥
-not_stopped k same (inl is) = let clash : stopped ≡ itself = same ∙ is in absurd (cc clash)
-not_stopped k same (inr is) = let clash : stopped ≡ unbuilt = same ∙ is in absurd (cc clash)
-
-not_loaded : {P : Type 0} (g : given.Over) (c : goal.After-end_unloaded g) (k : Sort) → (k ≡ itself) ⊎ (k ≡ unbuilt) → sorted c.end_unloaded.result ≡ Some k → P
-not_loaded g c k one sort = load_sort c.in-Err.fault k (of_sort k (end_of_load c.in-Err.fault) c.end_unloaded.result (g.T.Sink.written c.args.out.now) (g.T.Sink.written c.end_unloaded.new.out) (λ same. absurd (not_stopped k same one)) (line_told g c) sort).1 one
-
 pub returns-in_default-clause-one_run : goal.returns-in_default-clause-one_run
-returns-in_default-clause-one_run g c = λ sys opening readings lines. run-exists (rules_of sys) limits opening.histories opening readings lines
+returns-in_default-clause-one_run g c = λ sys opening readings lines. one_run_over (rules_of sys) limits opening readings lines
 
 pub returns-in-Ok-clause-one_run : goal.returns-in-Ok-clause-one_run
-returns-in-Ok-clause-one_run g c = λ sys opening readings lines. run-exists (rules_of sys) limits opening.histories opening readings lines
+returns-in-Ok-clause-one_run g c = λ sys opening readings lines. one_run_over (rules_of sys) limits opening readings lines
 
 pub returns-in-Err-clause-one_run : goal.returns-in-Err-clause-one_run
-returns-in-Err-clause-one_run g c = λ sys opening readings lines. run-exists (rules_of sys) limits opening.histories opening readings lines
+returns-in-Err-clause-one_run g c = λ sys opening readings lines. one_run_over (rules_of sys) limits opening readings lines
 
 -- all that is said of a run of the system that was loaded, which is the one that the words ask for
-loaded : (g : given.Over) (c : goal.After-drop-sys-in-Ok-2 g) (sys : System) → declares (g.D.Source.documents c.args.system.now) c.args.words.now ≡ Some (Ok sys) → (h : Contents) → StoresTell h (g.M.Stores.held c.args.stores.now) (g.M.Stores.snapshots c.args.stores.now)
+loaded : (g : given.Over) (c : goal.After-run_to_end g) (sys : System) → declares (g.D.Source.documents c.args.system.now) c.args.words.now ≡ Some (Ok sys) → (h : Contents) → StoresTell h (g.M.Stores.held c.args.stores.now) (g.M.Stores.snapshots c.args.stores.now)
     → OfInput (g.S.Source.left c.args.lines.now) (g.S.Source.left c.run_to_end.new.lines) (g.C.Clock.readings c.args.clock.now) (λ i rest r. Ran (Rose (g.S.Source.faults c.args.lines.now) (g.S.Source.faults c.run_to_end.new.lines)) (Rose (g.M.Stores.faults c.args.stores.now) (g.M.Stores.faults c.run_to_end.new.stores)) (Rose (g.D.Source.faults c.args.system.now) (g.D.Source.faults c.load.new.system)) sys i rest r h (g.M.Stores.held c.run_to_end.new.stores) (g.M.Stores.snapshots c.run_to_end.new.stores) (g.T.Sink.written c.args.out.now) (g.T.Sink.written c.run_to_end.new.out) c.run_to_end.result)
 loaded g c sys is h held = of_then (c.run_to_end.ensures.ran h held) (λ i rest r ran.
     ran_weaker (Rose (g.S.Source.faults c.args.lines.now) (g.S.Source.faults c.run_to_end.new.lines)) (Rose (g.M.Stores.faults c.args.stores.now) (g.M.Stores.faults c.run_to_end.new.stores)) (Rose (g.D.Source.faults c.args.system.now) (g.D.Source.faults c.load.new.system)) sys i rest r h (g.M.Stores.held c.run_to_end.new.stores) (g.M.Stores.snapshots c.run_to_end.new.stores) (g.T.Sink.written c.args.out.now) (g.T.Sink.written c.run_to_end.new.out) c.run_to_end.result (subst (λ x. Ran (Rose (g.S.Source.faults c.args.lines.now) (g.S.Source.faults c.run_to_end.new.lines)) (Rose (g.M.Stores.faults c.args.stores.now) (g.M.Stores.faults c.run_to_end.new.stores)) ⊥ x i rest r h (g.M.Stores.held c.run_to_end.new.stores) (g.M.Stores.snapshots c.run_to_end.new.stores) (g.T.Sink.written c.args.out.now) (g.T.Sink.written c.run_to_end.new.out) c.run_to_end.result) (same_system g c sys is) ran))
@@ -76,18 +67,6 @@ returns-in-Err-clause-early_line g c = λ e told early. (writes_so (end_of_load 
 
 pub returns-in-Err-clause-declaration_of : goal.returns-in-Err-clause-declaration_of
 returns-in-Err-clause-declaration_of g c = λ d code path asks told. refused_so (g.D.Source.documents c.args.system.now) c.args.words.now c.in-Some.name.now (sym (c.in-Some.ensures {u = tt})) c.in-Err.fault (c.in-Err.ensures {u = tt}).loads (g.T.Sink.written c.args.out.now) (g.T.Sink.written c.end_unloaded.new.out) c.end_unloaded.result (line_told g c) d code path asks told
-
-pub returns-in-Ok-clause-built : goal.returns-in-Ok-clause-built
-returns-in-Ok-clause-built g c = λ sys is told. subst (λ x. IfTold (g.M.Stores.held c.args.stores.now) (IsBuilt x)) (same_system g c sys is) (c.run_to_end.ensures.built told)
-
-pub returns-in-Ok-clause-not_built : goal.returns-in-Ok-clause-not_built
-returns-in-Ok-clause-not_built g c = λ sys is told. subst (λ x. IfTold (g.M.Stores.held c.args.stores.now) (IsNotBuilt x)) (same_system g c sys is) (c.run_to_end.ensures.not_built told)
-
-pub returns-in-Err-clause-built : goal.returns-in-Err-clause-built
-returns-in-Err-clause-built g c = λ sys is told. not_loaded g c itself (inl refl) told
-
-pub returns-in-Err-clause-not_built : goal.returns-in-Err-clause-not_built
-returns-in-Err-clause-not_built g c = λ sys is told. not_loaded g c unbuilt (inr refl) (ap sorted told)
 
 pub returns-in-Ok-clause-not_run_stores : goal.returns-in-Ok-clause-not_run_stores
 returns-in-Ok-clause-not_run_stores g c = λ unasked. asked (g.D.Source.documents c.args.system.now) c.args.words.now c.in-Some.name.now (sym (c.in-Some.ensures {u = tt})) c.in-Ok.sys (c.in-Ok.ensures {u = tt}).loads unasked
@@ -125,3 +104,15 @@ returns-in-Ok-clause-document_bound g c = subst (λ (o : Option Name). IfSome o 
 
 pub returns-in-Err-clause-document_bound : goal.returns-in-Err-clause-document_bound
 returns-in-Err-clause-document_bound g c = subst (λ (o : Option Name). IfSome o (λ name. TakesDocument (g.D.Source.documents c.args.system.now) name (g.D.Source.left c.args.system.now) (g.D.Source.left c.load.new.system))) (c.in-Some.ensures {u = tt}) c.load.ensures.bound
+
+-- whether a follower is ahead
+pub returns-in-Ok-clause-ahead : goal.returns-in-Ok-clause-ahead
+returns-in-Ok-clause-ahead g c = λ sys h is held. subst (λ x. AheadExactly (ahead (rules_of x).pairs h.histories) c.run_to_end.result) (same_system g c sys is) (c.run_to_end.ensures.ahead h held)
+
+pub returns-in-Err-clause-ahead : goal.returns-in-Err-clause-ahead
+returns-in-Err-clause-ahead g c = λ sys h is held. ahead_cut (ahead (rules_of sys).pairs h.histories) c.end_unloaded.result
+    (stopped_fault (g.D.Source.documents c.args.system.now) c.args.words.now c.in-Some.name.now (sym (c.in-Some.ensures {u = tt})) c.in-Err.fault (c.in-Err.ensures {u = tt}).loads sys is c.end_unloaded.result c.end_unloaded.ensures.ends)
+
+pub returns-in_default-clause-ahead : goal.returns-in_default-clause-ahead
+returns-in_default-clause-ahead g c = λ sys h is held.
+    let clash : None ≡ Some (Ok sys) = subst (λ o. declares_for (g.D.Source.documents c.args.system.now) o ≡ Some (Ok sys)) (sym (c.in_default.ensures {u = tt})) is in absurd (cc clash)

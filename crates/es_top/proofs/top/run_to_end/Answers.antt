@@ -1,13 +1,16 @@
-use Rattle.std.proofs.Common.{◌≡◌, ◌∙◌, Ok, Some, ap}
+use Rattle.std.proofs.Common.{◌≡◌, ◌∙◌, inl, inr, Ok, Some, ap, refl}
 use Rattle.es_model.specs.Causes.{Rose}
 use Rattle.es_lines.specs.declared.ends.End.{End}
 use Rattle.es_lines.specs.declared.ends.End.TheVariants as end
 use Rattle.es_process.specs.Contents.{Contents}
-use Rattle.es_single.specs.Traced.{OfInput}
-use Rattle.es_single.specs.Ends.{itself, unbegun}
+use Rattle.es_process.specs.Reached.{ahead}
+use Rattle.es_process.specs.SystemRules.{rules_of}
+use Rattle.es_top.specs.declared.status.Status.TheVariants as status
+use Rattle.es_top.specs.Traced.{OfInput}
+use Rattle.es_top.specs.Sorts.{unbegun}
 use Rattle.es_top.specs.Ends.{ended}
 use Rattle.es_top.specs.Top.{Ran, StoresTell}
-use Rattle.es_top.proofs.EndLemmas.{ran_stood, ran_text, of_sort, same_end, line_of_end}
+use Rattle.es_top.proofs.EndLemmas.{ahead_cut, ahead_exactly, ran_stood, ran_text, of_sort, same_end}
 use Rattle.es_top.proofs.TopLemmas.{of_then}
 use Rattle.es_top.proofs.top.run_to_end.Given as given
 use Rattle.es_top.proofs.top.run_to_end.Goals as goal
@@ -18,9 +21,9 @@ end_is g c k not told = c.in-Ok.is ∙ ap Ok (same_end c.in-Ok.end k c.finish.re
 
 -- all that is said of a run that came to its end
 ran_so : (g : given.Over) (c : goal.After-finish g) (h : Contents) → StoresTell h (g.M.Stores.held c.args.stores.now) (g.M.Stores.snapshots c.args.stores.now) → OfInput (g.S.Source.left c.args.lines.now) (g.S.Source.left c.run_system.new.lines) (g.C.Clock.readings c.args.clock.now)
-    (λ i rest r. Ran (Rose (g.S.Source.faults c.args.lines.now) (g.S.Source.faults c.run_system.new.lines)) (Rose (g.M.Stores.faults c.args.stores.now) (g.M.Stores.faults c.run_system.new.stores)) ⊥ c.args.sys.now i rest r h (g.M.Stores.held c.run_system.new.stores) (g.M.Stores.snapshots c.run_system.new.stores) (g.T.Sink.written c.args.out.now) (g.T.Sink.written c.finish.new.out) c.finish.result)
+    (λ i rest r. Ran (Rose (g.S.Source.faults c.args.lines.now) (g.S.Source.faults c.run_system.new.lines)) (Rose (g.M.Stores.faults c.args.stores.now) (g.M.Stores.faults c.run_system.new.stores)) ⊥ c.args.sys i rest r h (g.M.Stores.held c.run_system.new.stores) (g.M.Stores.snapshots c.run_system.new.stores) (g.T.Sink.written c.args.out.now) (g.T.Sink.written c.finish.new.out) c.finish.result)
 ran_so g c h held = of_then (c.in-Ok.ensures {u = tt}).stands (λ i rest r stands.
-    ran_stood (Rose (g.S.Source.faults c.args.lines.now) (g.S.Source.faults c.run_system.new.lines)) (Rose (g.M.Stores.faults c.args.stores.now) (g.M.Stores.faults c.run_system.new.stores)) ⊥ c.args.sys.now c.requires i rest r h (g.M.Stores.held c.run_system.new.stores) (g.M.Stores.snapshots c.run_system.new.stores) (g.T.Sink.written c.args.out.now) (g.T.Sink.written c.run_system.new.out) (g.T.Sink.written c.finish.new.out) c.in-Ok.end c.finish.result
+    ran_stood (Rose (g.S.Source.faults c.args.lines.now) (g.S.Source.faults c.run_system.new.lines)) (Rose (g.M.Stores.faults c.args.stores.now) (g.M.Stores.faults c.run_system.new.stores)) ⊥ c.args.sys c.requires i rest r h (g.M.Stores.held c.run_system.new.stores) (g.M.Stores.snapshots c.run_system.new.stores) (g.T.Sink.written c.args.out.now) (g.T.Sink.written c.run_system.new.out) (g.T.Sink.written c.finish.new.out) c.in-Ok.end c.finish.result
     (λ is. c.run_system.ensures.input (c.in-Ok.is ∙ ap Ok is)) (λ is. c.run_system.ensures.recorder (c.in-Ok.is ∙ ap Ok is)) c.finish.ensures.told (stands h held))
 
 pub returns-in-Ok-clause-ran : goal.returns-in-Ok-clause-ran
@@ -29,27 +32,19 @@ returns-in-Ok-clause-ran g c = ran_so g c
 pub returns-in-Err-clause-ran : goal.returns-in-Err-clause-ran
 returns-in-Err-clause-ran g c = λ h held. of_then (c.in-Err.ensures {u = tt}).stands (λ i rest r stands.
     let x = stands h held in
-    ran_text (Rose (g.S.Source.faults c.args.lines.now) (g.S.Source.faults c.run_system.new.lines)) (Rose (g.M.Stores.faults c.args.stores.now) (g.M.Stores.faults c.run_system.new.stores)) ⊥ c.args.sys.now c.requires i rest r h (g.M.Stores.held c.run_system.new.stores) (g.M.Stores.snapshots c.run_system.new.stores) (g.T.Sink.written c.args.out.now) (g.T.Sink.written c.run_system.new.out) x.0 x.1 x.2)
+    ran_text (Rose (g.S.Source.faults c.args.lines.now) (g.S.Source.faults c.run_system.new.lines)) (Rose (g.M.Stores.faults c.args.stores.now) (g.M.Stores.faults c.run_system.new.stores)) ⊥ c.args.sys c.requires i rest r h (g.M.Stores.held c.run_system.new.stores) (g.M.Stores.snapshots c.run_system.new.stores) (g.T.Sink.written c.args.out.now) (g.T.Sink.written c.run_system.new.out) x.0 x.1 x.2)
 
 pub returns-in-Ok-clause-begun : goal.returns-in-Ok-clause-begun
 returns-in-Ok-clause-begun g c = λ is. (c.in-Ok.ensures {u = tt}).of_system (of_sort unbegun c.in-Ok.end c.finish.result (g.T.Sink.written c.run_system.new.out) (g.T.Sink.written c.finish.new.out) (λ same. absurd (cc same)) c.finish.ensures.told is).1
-
-pub returns-in-Ok-clause-built : goal.returns-in-Ok-clause-built
-returns-in-Ok-clause-built g c = λ is. (c.in-Ok.ensures {u = tt}).built (of_sort itself c.in-Ok.end c.finish.result (g.T.Sink.written c.run_system.new.out) (g.T.Sink.written c.finish.new.out) (λ same. absurd (cc same)) c.finish.ensures.told is).1
-
-pub returns-in-Ok-clause-not_built : goal.returns-in-Ok-clause-not_built
-returns-in-Ok-clause-not_built g c = λ is. c.run_system.ensures.not_built (end_is g c end.NotBuilt (λ same. absurd (cc same)) (ap ended is))
-
-pub returns-in-Ok-clause-not_built_stores : goal.returns-in-Ok-clause-not_built_stores
-returns-in-Ok-clause-not_built_stores g c = λ is. c.run_system.ensures.not_built_stores (end_is g c end.NotBuilt (λ same. absurd (cc same)) (ap ended is))
-
-pub returns-in-Ok-clause-not_built_line : goal.returns-in-Ok-clause-not_built_line
-returns-in-Ok-clause-not_built_line g c = λ is.
-    line_of_end c.in-Ok.end end.NotBuilt c.finish.result (g.T.Sink.written c.args.out.now) (g.T.Sink.written c.run_system.new.out) (g.T.Sink.written c.finish.new.out) (same_end c.in-Ok.end end.NotBuilt c.finish.result (g.T.Sink.written c.run_system.new.out) (g.T.Sink.written c.finish.new.out) (λ same. absurd (cc same)) c.finish.ensures.told (ap ended is))
-    (c.run_system.ensures.silent (end_is g c end.NotBuilt (λ same. absurd (cc same)) (ap ended is))) (ap ended is) c.finish.ensures.told
 
 pub returns-in-Ok-clause-input : goal.returns-in-Ok-clause-input
 returns-in-Ok-clause-input g c = λ is. c.run_system.ensures.input (end_is g c end.Input (λ same. absurd (cc same)) (ap ended is))
 
 pub returns-in-Ok-clause-recorder : goal.returns-in-Ok-clause-recorder
 returns-in-Ok-clause-recorder g c = λ is. c.run_system.ensures.recorder (end_is g c end.Recorder (λ same. absurd (cc same)) (ap ended is))
+
+pub returns-in-Ok-clause-ahead : goal.returns-in-Ok-clause-ahead
+returns-in-Ok-clause-ahead g c = λ h held. ahead_exactly _ c.in-Ok.end c.finish.result (g.T.Sink.written c.run_system.new.out) (g.T.Sink.written c.finish.new.out) ((c.in-Ok.ensures {u = tt}).ahead h held) c.finish.ensures.told
+
+pub returns-in-Err-clause-ahead : goal.returns-in-Err-clause-ahead
+returns-in-Err-clause-ahead g c = λ h held. ahead_cut (ahead (rules_of c.args.sys).pairs h.histories) status.Sink (inr (inl refl))

@@ -1,0 +1,5 @@
+use Rattle.es_lines.proofs.ObjectLemmas.{one, both, text, last}
+use Rattle.es_lines.proofs.ends.write_ahead.Goals as goal
+
+pub returns : goal.returns
+returns c = last c.end_object.result (both (both (both (both (both (one c.in_ok-begin_object.ensures) (text c.as_str.ensures c.in_ok-put_text.ensures)) c.in_ok-put_text-2.ensures) c.in_ok-put_number.ensures) (text c.as_str-2.ensures c.in_ok-put_text-3.ensures)) c.in_ok-put_number-2.ensures) c.end_object.ensures
