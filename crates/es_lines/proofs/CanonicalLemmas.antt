@@ -1,5 +1,5 @@
 -- The canonical text of what a line asks asks for the same.
-use Rattle.std.proofs.Common.{◌≡◌, ◌∙◌, ◌^◌, ◌<◌, ◌≤◌, ℕ, ℤ, pos, negsuc, Bool, true, false, IsTrue, FitsSigned, w64, List, [], ◌∷◌, ◌++◌, codes, Option, Some, None, option_map, IsUtf8, if◌then◌else◌, refl, sym, ap, subst, arith, leb-true}
+use Rattle.std.proofs.Common.{◌≡◌, ◌∙◌, ℕ, Bool, true, false, IsTrue, List, [], ◌∷◌, ◌++◌, codes, Option, Some, None, option_map, IsUtf8, if◌then◌else◌, refl, ap, subst}
 use Rattle.std.proofs.lemmas.Str.{IsUtf8-from_is_utf8}
 use Rattle.std.specs.Str.{is_utf8}
 use Rattle.std.specs.Ordering.{nat_cmp, match_ordering}
@@ -8,22 +8,19 @@ use Rattle.std.specs.declared.cmp.Ordering.TheVariants.{Less, Equal, Greater}
 use Rattle.std.specs.Cmp.Lexicographic.{slice_cmp}
 use Rattle.json.proofs.Printed.Utf8.{IsUtf8-are_ascii}
 use Rattle.uuid.specs.Text.{parsed}
-use Rattle.serde_json.specs.Data.{Data, null, boolean, number, string, array, object, Items, no_items, item, Members, no_members, member}
-use Rattle.serde_json.specs.Find.{get, get_member, as_u64, of_integer}
+use Rattle.serde_json.specs.Data.{Data, null, boolean, number, string, array, object, Members, no_members, member}
+use Rattle.serde_json.specs.Find.{get, get_member, as_u64}
 use Rattle.serde_json.specs.Read.{read}
 use Rattle.es_model.specs.Names.{halves, topic_of}
-use Rattle.es_model.specs.Values.{Name, Record}
+use Rattle.es_model.specs.Values.{Name}
 use Rattle.es_model.specs.declared.declaration.System.{System}
-use Rattle.es_model.specs.declared.value.Atom.{Atom}
-use Rattle.es_model.specs.declared.value.Atom.TheVariants as atom
-use Rattle.es_model.specs.declared.value.Value.{Value}
-use Rattle.es_model.specs.declared.value.Value.TheVariants as value
-use Rattle.es_model.specs.declared.limits.TheConstants.{MOST_EXPECTED}
 use Rattle.es_transcode.specs.CanonicalText.{record_tree}
 use Rattle.es_transcode.specs.Decoded.{tree_in, record_in}
-use Rattle.es_transcode.specs.RecordText.{IsAtomTree, AreAtomTrees, IsValueTree, AreMembers, IsRecordTree}
+use Rattle.es_transcode.specs.RecordText.{IsRecordTree}
 use Rattle.es_transcode.proofs.CanonicalLemmas.{only-record_tree}
 use Rattle.es_transcode.proofs.DecodedLemmas.{tree-of-record}
+use Rattle.es_transcode.proofs.OutlineLemmas.{HasWhole}
+use Rattle.es_transcode.proofs.RecordLemmas.{whole-record}
 use Rattle.es_domain.specs.declared.command.Command.{Command}
 use Rattle.es_lines.specs.CommandText.{command_tree, command_text, is_absent_or_expectable}
 use Rattle.es_lines.specs.Requests.{asks, and_then, has_only, text_in, is_expectable, number_if, number_in, optional, text_of, names, id_of, args, target, command, is_true, aggregate, app_and, has, do_line, get_line, log_line, tracking_line, snapshot_line, word_line, spelled, request_in, IsDeclared}
@@ -32,9 +29,9 @@ use Rattle.es_lines.specs.declared.request.Request.TheVariants.{Do, Get, Log, Tr
 use Rattle.es_lines.proofs.IdLemmas.{parsed-again, utf8-simple}
 use Rattle.es_lines.proofs.PointLemmas.{halves-joined}
 use Rattle.es_lines.proofs.RequestLemmas.{asked-of}
-use Rattle.es_lines.proofs.TextLemmas.{IsWhole, HasWhole, ItemsHaveWhole, MembersHaveWhole, utf8-text, read-compact}
+use Rattle.es_lines.proofs.TextLemmas.{utf8-text, read-compact}
 use Rattle.es_lines.proofs.TokenLemmas.{IsSound, HasSound, sound-read}
-use Rattle.es_lines.proofs.TreeLemmas.{IsWritable, asked-by, flat-tree, tree_with}
+use Rattle.es_lines.proofs.TreeLemmas.{IsWritable, asked-by, flat-tree, small, tree_with}
 
 -- ---- parts that are there
 
@@ -80,40 +77,6 @@ utf8-of : (k : List ℕ) (t : Data) (s : List ℕ) → IsSound t → text_of k t
 utf8-of k t s sound is =
     let m = taken (get k t) text_in s is in
     subst IsSound (text-is m.0 s m.2) (sound-get k t m.0 sound m.1)
-
--- ---- the numbers of a record are whole
-
-whole-int : (z : ℤ) → FitsSigned w64 z → IsWhole (of_integer z)
-whole-int (pos n) fits = grind (arith, fits)
-whole-int (negsuc n) fits = grind (arith, fits)
-
-whole-atom : (a : Atom) (d : Data) → IsAtomTree a d → HasWhole d
-whole-atom atom.Null d is = subst HasWhole (sym is) tt
-whole-atom (atom.Bool truth) d is = subst HasWhole (sym is) tt
-whole-atom (atom.Int z) d is = subst HasWhole (sym is.1) (whole-int z is.0)
-whole-atom (atom.Text text) d is = subst HasWhole (sym is) tt
-whole-atom (atom.Uuid i) d is = subst HasWhole (sym is.2) (tt, (tt, tt))
-whole-atom (atom.Moment m) d is = subst HasWhole (sym is.2) (tt, (tt, tt))
-whole-atom (atom.Decimal n) d is = subst HasWhole (sym is.2) (tt, (tt, tt))
-
-whole-atoms : (items : List Atom) (ds : Items) → AreAtomTrees items ds → ItemsHaveWhole ds
-whole-atoms [] no_items so = tt
-whole-atoms [] (item d ds) so = absurd so
-whole-atoms (a ∷ items) no_items so = absurd so
-whole-atoms (a ∷ items) (item d ds) so = (whole-atom a d so.0, whole-atoms items ds so.1)
-
-whole-value : (v : Value) (d : Data) → IsValueTree v d → HasWhole d
-whole-value (value.One a) d is = whole-atom a d is
-whole-value (value.List items) d is = subst HasWhole (sym is.2) (whole-atoms items is.0 is.1)
-
-whole-members : (r : Record) (ms : Members) → AreMembers r ms → MembersHaveWhole ms
-whole-members [] no_members so = tt
-whole-members [] (member k d ms) so = absurd so
-whole-members (x ∷ xs) no_members so = absurd so
-whole-members (x ∷ xs) (member k d ms) so = (whole-value x.1 d so.1, whole-members xs ms so.2)
-
-whole-record : (r : Record) (d : Data) → IsRecordTree r d → HasWhole d
-whole-record r d is = subst HasWhole (sym is.2) (whole-members r is.0 is.1)
 
 -- ---- the version that a line expects
 
@@ -245,9 +208,6 @@ sound-tree app c None utf8 s =
     (IsUtf8-are_ascii (codes "app") refl, refl, utf8, (IsUtf8-are_ascii (codes "args") refl, refl, s.args, (IsUtf8-are_ascii (codes "do") refl, refl, s.names, (IsUtf8-are_ascii (codes "id") refl, tt, utf8-simple c.id, tt))))
 sound-tree app c (Some n) utf8 s =
     (IsUtf8-are_ascii (codes "app") refl, refl, utf8, (IsUtf8-are_ascii (codes "args") refl, refl, s.args, (IsUtf8-are_ascii (codes "do") refl, refl, s.names, (IsUtf8-are_ascii (codes "expect") refl, refl, tt, (IsUtf8-are_ascii (codes "id") refl, tt, utf8-simple c.id, tt)))))
-
-small : (n : ℕ) → IsTrue (is_expectable n) → n < 2 ^ 64
-small n is = let most : n ≤ MOST_EXPECTED = leb-true n MOST_EXPECTED is in omega (arith, most)
 
 whole-tree : (app : Name) (c : Command) (v : Option ℕ) → IsTrue (is_absent_or_expectable v) → IsSpelled c → HasWhole (tree_with app c v)
 whole-tree app c None fits s = (tt, (s.whole, (tt, (tt, tt))))

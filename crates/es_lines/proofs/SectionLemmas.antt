@@ -8,7 +8,8 @@ use Rattle.json.specs.Tree.{json_tokens, items_tokens}
 use Rattle.json.specs.Written.{Written}
 use Rattle.serde_json.specs.Written.{outline, items_outline}
 use Rattle.es_model.specs.declared.event.Notification.{Notification}
-use Rattle.es_lines.specs.inner.Objects.{Adds, text_tokens}
+use Rattle.es_transcode.specs.Written.{Adds}
+use Rattle.es_lines.specs.inner.Objects.{text_tokens}
 use Rattle.es_lines.specs.Texts.{span_tree, state_name, state_text, entry_trees, reply_tree}
 use Rattle.es_lines.specs.declared.replies.Reply.TheVariants.{Log}
 

@@ -16,6 +16,8 @@ use Rattle.json.proofs.Unique.Spelling.{value-json_tokens_back}
 use Rattle.serde_json.specs.Data as tree
 use Rattle.serde_json.specs.Data.{Data, Items, no_items, item, Members, no_members, member, put}
 use Rattle.serde_json.specs.Read.{number_of, of_json, of_items, of_members, read, max_depth}
+use Rattle.es_model.specs.Rising.{is_before}
+use Rattle.es_transcode.proofs.OutlineLemmas.{IsFirst, HasRising, ItemsHaveRising, MembersHaveRising}
 use Rattle.es_lines.proofs.ContentLemmas.{content-utf8, back, found}
 
 -- ---- tokens
@@ -185,14 +187,6 @@ mutual
 
 -- ---- trees
 
-abbrev pub is-before : List ℕ → List ℕ → Bool
-is-before a b = is_lt (slice_cmp nat_cmp a b)
-
--- a name comes before the first of these
-abbrev pub IsFirst : List ℕ → Members → Type 0
-IsFirst k no_members = Unit {0}
-IsFirst k (member l d ms) = IsTrue (is-before k l)
-
 -- each text is UTF-8, and the names of each object rise
 abbrev mutual
   pub IsSound : Data → Type 0
@@ -211,13 +205,30 @@ abbrev mutual
   HasSound no_members = Unit {0}
   HasSound (member k d ms) = IsUtf8 k × IsFirst k ms × IsSound d × HasSound ms
 
+mutual
+  pub rising-sound : (d : Data) → IsSound d → HasRising d
+  rising-sound tree.null sound = tt
+  rising-sound (tree.boolean b) sound = tt
+  rising-sound (tree.number n) sound = tt
+  rising-sound (tree.string s) sound = tt
+  rising-sound (tree.array ds) sound = rising-items ds sound
+  rising-sound (tree.object ms) sound = rising-members ms sound
+
+  rising-items : (ds : Items) → AreSound ds → ItemsHaveRising ds
+  rising-items no_items sound = tt
+  rising-items (item d ds) sound = (rising-sound d sound.0, rising-items ds sound.1)
+
+  rising-members : (ms : Members) → HasSound ms → MembersHaveRising ms
+  rising-members no_members sound = tt
+  rising-members (member k d ms) sound = (sound.1, rising-sound d sound.2, rising-members ms sound.3)
+
 less : (o : Ordering) → o ≡ Less → IsTrue (is_lt o)
 less o is = ap is_lt is
 
-greater-less : (k l : List ℕ) → slice_cmp nat_cmp k l ≡ Greater → IsTrue (is-before l k)
+greater-less : (k l : List ℕ) → slice_cmp nat_cmp k l ≡ Greater → IsTrue (is_before l k)
 greater-less k l is = less (slice_cmp nat_cmp l k) (nat_list_cmp_total.antisymm l k ∙ ap ordering_reverse is)
 
-first-put : (l k : List ℕ) (d : Data) (ms : Members) → IsTrue (is-before l k) → IsFirst l ms → IsFirst l (put k d ms)
+first-put : (l k : List ℕ) (d : Data) (ms : Members) → IsTrue (is_before l k) → IsFirst l ms → IsFirst l (put k d ms)
 first-put l k d no_members before first = before
 first-put l k d (member m e ms) before first = step (slice_cmp nat_cmp k m)
   where

@@ -1,7 +1,7 @@
 ghost use Rattle.std.specs.Prelude.{◌≡◌, [], ◌∷◌, ◌++◌, IfOk, IfSome, OnOk, codes, is_some};
 ghost use Rattle.json.specs.Tree.{json_tokens, members_tokens};
 ghost use Rattle.serde_json.specs.Written.{outline, members_outline};
-ghost use Rattle.es_lines.specs.inner.Objects.{Adds};
+ghost use Rattle.es_transcode.specs.Written.{Adds};
 ghost use Rattle.es_lines.specs.Texts as spec;
 
 use crate::objects::{put_number, put_text};

@@ -1,7 +1,8 @@
 ghost use Rattle.std.specs.Prelude.{◌≡◌, [], ◌∷◌, ◌++◌, decimal, IfOk, OnOk};
 ghost use Rattle.json.specs.Print.{print};
 ghost use Rattle.json.specs.Token.{begin_object, end_object, key, number};
-ghost use Rattle.es_lines.specs.inner.Objects.{Adds, Begun, text_tokens};
+ghost use Rattle.es_transcode.specs.Written.{Adds};
+ghost use Rattle.es_lines.specs.inner.Objects.{Begun, text_tokens};
 
 use es_model::{Bytes, NoMemory};
 use json::Writer;

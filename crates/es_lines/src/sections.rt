@@ -2,8 +2,9 @@
 ghost use Rattle.std.specs.Prelude.{◌≡◌, ◌++◌, IfOk, OnOk, codes, decimal, string_bytes};
 ghost use Rattle.json.specs.Tree.{json_tokens, items_tokens};
 ghost use Rattle.serde_json.specs.Written.{outline, items_outline};
+ghost use Rattle.es_transcode.specs.Written.{Adds};
 ghost use Rattle.es_lines.specs.declared.replies.Reply.TheVariants as replies;
-ghost use Rattle.es_lines.specs.inner.Objects.{Adds, text_tokens};
+ghost use Rattle.es_lines.specs.inner.Objects.{text_tokens};
 ghost use Rattle.es_lines.specs.Texts as spec;
 
 use crate::objects::{begun, ended, put_number, put_text};

@@ -3,13 +3,12 @@
 ghost use Rattle.es_expr.specs.Sound.{IsChecked};
 
 use crate::documents;
-use crate::values::kinds;
+use crate::values::{kinds, record};
 use es_decl::read_expr;
 use es_expr::{EvalFault, ExprFault, check, eval, fit};
 use es_model::{AtomKind, Boxed, Duplicate, Expr, Fields, Kind, Kinds, Text};
 use es_suite::given;
 use es_suite::told::{self, Members};
-use es_transcode::encode_tree;
 use serde_json::Value;
 use std::alloc::Global;
 
@@ -41,7 +40,7 @@ fn word(alloc: Global, kind: Kind) -> anyhow::Result<Text> {
 fn tree_of(alloc: Global, kind: Kind, value: es_model::Value) -> anyhow::Result<Value> {
     let mut fields = Fields::new(alloc);
     fields.put(word(alloc, kind)?, value)?;
-    Ok(encode_tree(alloc, &fields)?)
+    record(alloc, &fields)
 }
 
 // The value of an expression of a kind.

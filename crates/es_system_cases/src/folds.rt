@@ -4,12 +4,12 @@ ghost use Rattle.std.specs.Prelude.{◌≡◌, true};
 ghost use Rattle.es_expr.specs.Checked.{IsCheckedSystem};
 ghost use Rattle.es_domain.specs.Steps.{FitsItsTopic, HasItsFields};
 
+use crate::values::record;
 use crate::{documents, mapping};
 use es_domain::{Aggregate, ApplyFault};
 use es_model::{DomainEvent, Duplicate, System, are_of_kinds};
 use es_suite::given;
 use es_suite::told::{Items, Members};
-use es_transcode::encode_tree;
 use serde_json::Value;
 use std::alloc::Global;
 
@@ -49,7 +49,7 @@ fn with_fields(alloc: Global, aggregate: &Aggregate, fields: Value) -> anyhow::R
 // An aggregate as its events have made it, by a copy.
 fn told_of(alloc: Global, aggregate: &Aggregate) -> anyhow::Result<Value> {
     let copy = aggregate.copy()?;
-    let fields = encode_tree(alloc, &copy.fields)?;
+    let fields = record(alloc, &copy.fields)?;
     with_fields(alloc, &copy, fields)
 }
 

@@ -2,12 +2,12 @@
 //! and the edits of an upcast.
 
 use crate::documents::system;
+use crate::values::record;
 use anyhow::Context;
 use es_mapper::{MapFault, to_domain, to_stored, upcast};
 use es_model::{DomainEvent, Edit, Fields, StoredEvent, System};
 use es_suite::given;
 use es_suite::told::{self, Members};
-use es_transcode::encode_tree;
 use serde_json::Value;
 use std::alloc::Global;
 
@@ -29,7 +29,7 @@ pub(crate) fn event(alloc: Global, tree: &Value) -> anyhow::Result<DomainEvent> 
 
 // A domain event as it is told.
 fn told_of(alloc: Global, event: &DomainEvent) -> anyhow::Result<Value> {
-    let fields = encode_tree(alloc, &event.fields)?;
+    let fields = record(alloc, &event.fields)?;
     let mut told = Members::new(alloc);
     told.put("fields", fields);
     told.put_id("id", event.originator_id);
@@ -83,7 +83,7 @@ fn kept(alloc: Global, sys: &System, event: &DomainEvent) -> anyhow::Result<Valu
 // Fields after some edits.
 fn after(alloc: Global, edits: &[Edit], fields: &mut Fields) -> anyhow::Result<Value> {
     upcast(edits, fields)?;
-    Ok(encode_tree(alloc, fields)?)
+    record(alloc, fields)
 }
 
 // The fields after the edits of the first upcast of the first class's Created event.

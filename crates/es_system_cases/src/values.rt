@@ -5,6 +5,7 @@ use es_expr::fit;
 use es_model::{AtomKind, Fields, Kind, Kinds, Text, are_of_kinds, fits};
 use es_suite::given;
 use es_suite::told::{Items, Members};
+use es_transcode::{encode_record, read_tree};
 use serde_json::Value;
 use std::alloc::Global;
 
@@ -44,6 +45,15 @@ pub(crate) fn kinds(alloc: Global, tree: &Value) -> anyhow::Result<Kinds> {
         put_kind(alloc, &mut kinds, name.as_str(), word)?;
     }
     Ok(kinds)
+}
+
+/// A record, as the tree that its text is read as.
+pub(crate) fn record(alloc: Global, fields: &Fields) -> anyhow::Result<Value> {
+    let text = encode_record(alloc, fields)?;
+    match read_tree(alloc, text.as_slice())? {
+        Some(tree) => Ok(tree),
+        None => Err(anyhow::anyhow!("the text of a record is no JSON")),
+    }
 }
 
 // Whether each value fits its kind, none where there is no value.

@@ -8,7 +8,9 @@ pub mod DigitsLemmas
 pub mod FaultLemmas
 pub mod MomentLemmas
 pub mod OnlyLemmas
+pub mod OutlineLemmas
 pub mod RecordLemmas
 pub mod SpelledLemmas
 pub mod TaggedLemmas
 pub mod TextsLemmas
+pub mod WritingLemmas

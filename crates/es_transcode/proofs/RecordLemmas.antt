@@ -1,27 +1,21 @@
 -- Laws of records and their trees.
-use Rattle.std.proofs.Common.{◌≡◌, ◌∙◌, ◌<◌, ◌≤◌, ◌+◌, Some, arith, ℕ, List, [], ◌∷◌, ◌++◌, length, take, get_or, refl, sym, ap, subst, add-one}
-use Rattle.std.proofs.Math.Seq.{take-suc}
-use Rattle.std.proofs.Common.{IsTrue, zero, suc, false, pos, negsuc, BTreeMap, String, Global}
-use Rattle.std.specs.Ordering.{nat_cmp, is_lt, ordering_reverse}
-use Rattle.std.specs.declared.cmp.Ordering.{Ordering}
-use Rattle.std.specs.declared.cmp.Ordering.TheVariants.{Less, Equal, Greater}
-use Rattle.std.specs.Cmp.Lexicographic.{slice_cmp}
-use Rattle.std.specs.Str.{IsUtf8}
-use Rattle.std.proofs.lemmas.Cmp.{nat_list_cmp_total}
-use Rattle.serde_json.specs.Data.{Data, Items, no_items, item, Members, no_members, member, put, depth, items_depth, members_depth}
-use Rattle.serde_json.specs.declared.value.Value.{Value as Tree, Object}
-use Rattle.serde_json.specs.View.{view, items_view, members_view}
-use Rattle.serde_json.specs.Read.{read, max_depth}
-use Rattle.serde_json.specs.Written.{compact_text, has_float, items_have_float, members_have_float}
-use Rattle.serde_json.proofs.Views.{view-Object}
-use Rattle.es_model.specs.Rising.{is_before, IsRising, comes_first}
-use Rattle.es_model.specs.Values.{Name, Record}
+use Rattle.std.proofs.Common.{◌≡◌, ◌≤◌, Some, arith, ℤ, pos, negsuc, FitsSigned, w64, List, [], ◌∷◌, ◌++◌, Result, Ok, Err, OnOk, refl, sym, subst}
+use Rattle.std.specs.Fmt.{signed_decimal}
+use Rattle.serde_json.specs.Data.{Data, Items, no_items, item, Members, no_members, member, depth, items_depth, members_depth}
+use Rattle.serde_json.specs.declared.value.Value.{Value as Tree}
+use Rattle.serde_json.specs.Find.{of_integer}
+use Rattle.serde_json.specs.Read.{of_json, max_depth}
+use Rattle.serde_json.specs.View.{view, items_view}
+use Rattle.serde_json.specs.Written.{number_text, outline}
+use Rattle.es_model.specs.Rising.{IsRising}
+use Rattle.es_model.specs.Values.{Record}
 use Rattle.es_model.specs.declared.value.Atom.{Atom}
 use Rattle.es_model.specs.declared.value.Atom.TheVariants as atom
 use Rattle.es_model.specs.declared.value.Value.{Value}
 use Rattle.es_model.specs.declared.value.Value.TheVariants as value
-use Rattle.es_model.proofs.RisingLemmas.{before-trans}
-use Rattle.es_transcode.specs.RecordText.{AreAtomTrees, IsAtomTree, IsValueTree, AreMembers, IsRecordText}
+use Rattle.es_transcode.specs.CanonicalText.{atom_tree, item_trees, value_tree, member_trees, record_tree}
+use Rattle.es_transcode.specs.RecordText.{AreAtomTrees, IsAtomTree, IsValueTree, AreMembers, IsRecordTree}
+use Rattle.es_transcode.proofs.OutlineLemmas.{IsWhole, HasWhole, ItemsHaveWhole, MembersHaveWhole, HasRising, ItemsHaveRising, MembersHaveRising, tree-back}
 
 pub push-tree : (xs : List Atom) (vs : List Tree) (a : Atom) (v : Tree) → AreAtomTrees xs (items_view vs) → IsAtomTree a (view v) → AreAtomTrees (xs ++ a ∷ []) (items_view (vs ++ v ∷ []))
 push-tree [] [] a v so here = (here, tt)
@@ -29,118 +23,96 @@ push-tree [] (w ∷ vs) a v so here = absurd so
 push-tree (x ∷ xs) [] a v so here = absurd so
 push-tree (x ∷ xs) (w ∷ vs) a v so here = (so.0, push-tree xs vs a v so.1 here)
 
-pub trees-step : (atoms : List Atom) (i : ℕ) (a : Atom) (vs ws : List Tree) (v : Tree) → i < length atoms → a ≡ get_or atoms i a → AreAtomTrees (take i atoms) (items_view vs) → IsAtomTree a (view v)
-    → ws ≡ vs ++ v ∷ [] → AreAtomTrees (take (i + 1) atoms) (items_view ws)
-trees-step atoms i a vs ws v within is so here more =
-    let front : take (i + 1) atoms ≡ take i atoms ++ a ∷ [] = ap (λ n. take n atoms) (add-one i) ∙ take-suc atoms i a within ∙ (λ k. take i atoms ++ sym is k ∷ []) in
-    subst (λ xs. AreAtomTrees xs (items_view ws)) (sym front) (subst (λ us. AreAtomTrees (take i atoms ++ a ∷ []) (items_view us)) (sym more) (push-tree (take i atoms) vs a v so here))
+-- the digits of a whole number
+pub int-text : (z : ℤ) → signed_decimal z ≡ number_text (of_integer z)
+int-text (pos n) = refl
+int-text (negsuc n) = refl
 
--- a name comes after all of these
-abbrev AllBefore : Record → Name → Type 0
-AllBefore [] name = Unit {0}
-AllBefore (x ∷ xs) name = IsTrue (is_before x.0 name) × AllBefore xs name
+-- ---- the numbers of a record are whole
 
-less : (o : Ordering) → IsTrue (is_lt o) → o ≡ Less
-less Less h = refl
-less Equal h = cc
-less Greater h = cc
+whole-int : (z : ℤ) → FitsSigned w64 z → IsWhole (of_integer z)
+whole-int (pos n) fits = grind (arith, fits)
+whole-int (negsuc n) fits = grind (arith, fits)
 
-later : (b a : Name) → IsTrue (is_before a b) → slice_cmp nat_cmp b a ≡ Greater
-later b a h = nat_list_cmp_total.antisymm b a ∙ ap ordering_reverse (less (slice_cmp nat_cmp a b) h)
+whole-atom : (a : Atom) (d : Data) → IsAtomTree a d → HasWhole d
+whole-atom atom.Null d is = subst HasWhole (sym is) tt
+whole-atom (atom.Bool truth) d is = subst HasWhole (sym is) tt
+whole-atom (atom.Int z) d is = subst HasWhole (sym is.1) (whole-int z is.0)
+whole-atom (atom.Text text) d is = subst HasWhole (sym is) tt
+whole-atom (atom.Uuid i) d is = subst HasWhole (sym is.2) (tt, (tt, tt))
+whole-atom (atom.Moment m) d is = subst HasWhole (sym is.2) (tt, (tt, tt))
+whole-atom (atom.Decimal n) d is = subst HasWhole (sym is.2) (tt, (tt, tt))
 
-put-last : (xs : Record) (ms : Members) (x : Name × Value) (d : Data) → AreMembers xs ms → IsValueTree x.1 d → AllBefore xs x.0 → AreMembers (xs ++ x ∷ []) (put x.0 d ms)
-put-last [] no_members x d so tree before = (refl, tree, tt)
-put-last [] (member k e ms) x d so tree before = absurd so
-put-last (y ∷ ys) no_members x d so tree before = absurd so
-put-last (y ∷ ys) (member k e ms) x d so tree before =
-    let after : slice_cmp nat_cmp x.0 k ≡ Greater = later x.0 k (subst (λ n. IsTrue (is_before n x.0)) (sym so.0) before.0) in
-    rw after (so.0, so.1, put-last ys ms x d so.2 tree before.1)
+whole-atoms : (items : List Atom) (ds : Items) → AreAtomTrees items ds → ItemsHaveWhole ds
+whole-atoms [] no_items so = tt
+whole-atoms [] (item d ds) so = absurd so
+whole-atoms (a ∷ items) no_items so = absurd so
+whole-atoms (a ∷ items) (item d ds) so = (whole-atom a d so.0, whole-atoms items ds so.1)
 
-first-before : (x : Name × Value) (xs : Record) (y : Name × Value) → IsRising (x ∷ xs ++ y ∷ []) → IsTrue (is_before x.0 y.0)
-first-before x [] y rising = rising.0
-first-before x (z ∷ zs) y rising = before-trans x.0 z.0 y.0 rising.0 (first-before z zs y rising.1)
+whole-value : (v : Value) (d : Data) → IsValueTree v d → HasWhole d
+whole-value (value.One a) d is = whole-atom a d is
+whole-value (value.List items) d is = subst HasWhole (sym is.2) (whole-atoms items is.0 is.1)
 
-all-before : (xs : Record) (y : Name × Value) → IsRising (xs ++ y ∷ []) → AllBefore xs y.0
-all-before [] y rising = tt
-all-before (x ∷ xs) y rising = (first-before x xs y rising, all-before xs y rising.1)
+whole-members : (r : Record) (ms : Members) → AreMembers r ms → MembersHaveWhole ms
+whole-members [] no_members so = tt
+whole-members [] (member k d ms) so = absurd so
+whole-members (x ∷ xs) no_members so = absurd so
+whole-members (x ∷ xs) (member k d ms) so = (whole-value x.1 d so.1, whole-members xs ms so.2)
 
-rising-none : (n : ℕ) → IsRising (take {A = Name × Value} n [])
-rising-none zero = tt
-rising-none (suc n) = tt
+pub whole-record : (r : Record) (d : Data) → IsRecordTree r d → HasWhole d
+whole-record r d is = subst HasWhole (sym is.2) (whole-members r is.0 is.1)
 
-rising-first : (x : Name × Value) (n : ℕ) → IsTrue (comes_first x.0 (take {A = Name × Value} n []))
-rising-first x zero = refl
-rising-first x (suc n) = refl
+-- ---- the names in its tree rise
 
-rising-take : (xs : Record) (n : ℕ) → IsRising xs → IsRising (take n xs)
-rising-take [] n rising = rising-none n
-rising-take (x ∷ xs) zero rising = tt
-rising-take (x ∷ []) (suc n) rising = (rising-first x n, rising-none n)
-rising-take (x ∷ y ∷ xs) (suc zero) rising = (refl, tt)
-rising-take (x ∷ y ∷ xs) (suc (suc n)) rising = (rising.0, rising-take (y ∷ xs) (suc n) rising.1)
+rising-atom : (a : Atom) → HasRising (atom_tree a)
+rising-atom atom.Null = tt
+rising-atom (atom.Bool truth) = tt
+rising-atom (atom.Int z) = tt
+rising-atom (atom.Text text) = tt
+rising-atom (atom.Uuid i) = (refl, tt, (tt, tt, tt))
+rising-atom (atom.Moment m) = (refl, tt, (tt, tt, tt))
+rising-atom (atom.Decimal n) = (refl, tt, (tt, tt, tt))
 
-pub members-step : (fields : Record) (i : ℕ) (x : Name × Value) (ms ns : Members) (d : Data) → i < length fields → x ≡ get_or fields i x → IsRising fields → AreMembers (take i fields) ms → IsValueTree x.1 d
-    → ns ≡ put x.0 d ms → AreMembers (take (i + 1) fields) ns
-members-step fields i x ms ns d within is rising so here more =
-    let front : take (i + 1) fields ≡ take i fields ++ x ∷ [] = ap (λ n. take n fields) (add-one i) ∙ take-suc fields i x within ∙ (λ k. take i fields ++ sym is k ∷ []) in
-    let before : AllBefore (take i fields) x.0 = all-before (take i fields) x (subst IsRising front (rising-take fields (i + 1) rising)) in
-    subst (λ xs. AreMembers xs ns) (sym front) (subst (λ us. AreMembers (take i fields ++ x ∷ []) us) (sym more) (put-last (take i fields) ms x d so here before))
+rising-items : (items : List Atom) → ItemsHaveRising (item_trees items)
+rising-items [] = tt
+rising-items (a ∷ items) = (rising-atom a, rising-items items)
 
--- the tree of a record has no float, and nests three levels at most
+rising-value : (v : Value) → HasRising (value_tree v)
+rising-value (value.One a) = rising-atom a
+rising-value (value.List items) = rising-items items
 
-atom-exact : (a : Atom) (d : Data) → IsAtomTree a d → has_float d ≡ false
-atom-exact atom.Null d is = ap has_float is
-atom-exact (atom.Bool truth) d is = ap has_float is
-atom-exact (atom.Int (pos n)) d is = ap has_float is.1
-atom-exact (atom.Int (negsuc n)) d is = ap has_float is.1
-atom-exact (atom.Text text) d is = ap has_float is
-atom-exact (atom.Uuid id) d is = ap has_float is.2
-atom-exact (atom.Moment m) d is = ap has_float is.2
-atom-exact (atom.Decimal n) d is = ap has_float is.2
+rising-members : (r : Record) → IsRising r → MembersHaveRising (member_trees r)
+rising-members [] rising = tt
+rising-members (x ∷ []) rising = (tt, rising-value x.1, tt)
+rising-members (x ∷ y ∷ xs) rising = (rising.0, rising-value x.1, rising-members (y ∷ xs) rising.1)
 
-atoms-exact : (items : List Atom) (ds : Items) → AreAtomTrees items ds → items_have_float ds ≡ false
-atoms-exact [] no_items so = refl
-atoms-exact [] (item d ds) so = absurd so
-atoms-exact (a ∷ items) no_items so = absurd so
-atoms-exact (a ∷ items) (item d ds) so = rw (atom-exact a d so.0) (atoms-exact items ds so.1)
+-- so the tree is read from its outline, where its members were written
+pub record-back : {E : Type 0} (written : Result (Unit {0}) E) (r s : Record) → s ≡ r → IsRising r → OnOk written (AreMembers s (member_trees s)) → OnOk written (of_json (outline (record_tree r)) ≡ Some (record_tree r))
+record-back (Ok u) r s same rising are = tree-back (record_tree r) (rising-members r rising) (whole-members r (member_trees r) (subst (λ z. AreMembers z (member_trees z)) same are))
+record-back (Err e) r s same rising are = tt
 
-value-exact : (v : Value) (d : Data) → IsValueTree v d → has_float d ≡ false
-value-exact (value.One a) d is = atom-exact a d is
-value-exact (value.List items) d is = ap has_float is.2 ∙ atoms-exact items is.0 is.1
+-- ---- it nests three levels at most
 
-members-exact : (xs : Record) (ms : Members) → AreMembers xs ms → members_have_float ms ≡ false
-members-exact [] no_members so = refl
-members-exact [] (member k d ms) so = absurd so
-members-exact (x ∷ xs) no_members so = absurd so
-members-exact (x ∷ xs) (member k d ms) so = rw (value-exact x.1 d so.1) (members-exact xs ms so.2)
+flat-atom : (a : Atom) → depth (atom_tree a) ≤ 1
+flat-atom atom.Null = omega arith
+flat-atom (atom.Bool truth) = omega arith
+flat-atom (atom.Int z) = omega arith
+flat-atom (atom.Text text) = omega arith
+flat-atom (atom.Uuid id) = omega arith
+flat-atom (atom.Moment m) = omega arith
+flat-atom (atom.Decimal n) = omega arith
 
-atom-flat : (a : Atom) (d : Data) → IsAtomTree a d → depth d ≤ 1
-atom-flat atom.Null d is = omega (arith, ap depth is)
-atom-flat (atom.Bool truth) d is = omega (arith, ap depth is)
-atom-flat (atom.Int z) d is = omega (arith, ap depth is.1)
-atom-flat (atom.Text text) d is = omega (arith, ap depth is)
-atom-flat (atom.Uuid id) d is = omega (arith, ap depth is.2)
-atom-flat (atom.Moment m) d is = omega (arith, ap depth is.2)
-atom-flat (atom.Decimal n) d is = omega (arith, ap depth is.2)
+flat-items : (items : List Atom) → items_depth (item_trees items) ≤ 1
+flat-items [] = omega arith
+flat-items (a ∷ items) = omega (arith, flat-atom a, flat-items items)
 
-atoms-flat : (items : List Atom) (ds : Items) → AreAtomTrees items ds → items_depth ds ≤ 1
-atoms-flat [] no_items so = omega arith
-atoms-flat [] (item d ds) so = absurd so
-atoms-flat (a ∷ items) no_items so = absurd so
-atoms-flat (a ∷ items) (item d ds) so = omega (arith, atom-flat a d so.0, atoms-flat items ds so.1)
+flat-value : (v : Value) → depth (value_tree v) ≤ 2
+flat-value (value.One a) = omega (arith, flat-atom a)
+flat-value (value.List items) = omega (arith, flat-items items)
 
-value-flat : (v : Value) (d : Data) → IsValueTree v d → depth d ≤ 2
-value-flat (value.One a) d is = omega (arith, atom-flat a d is)
-value-flat (value.List items) d is = omega (arith, ap depth is.2, atoms-flat items is.0 is.1)
+pub flat-members : (r : Record) → members_depth (member_trees r) ≤ 2
+flat-members [] = omega arith
+flat-members (x ∷ xs) = omega (arith, flat-value x.1, flat-members xs)
 
-members-flat : (xs : Record) (ms : Members) → AreMembers xs ms → members_depth ms ≤ 2
-members-flat [] no_members so = omega arith
-members-flat [] (member k d ms) so = absurd so
-members-flat (x ∷ xs) no_members so = absurd so
-members-flat (x ∷ xs) (member k d ms) so = omega (arith, value-flat x.1 d so.1, members-flat xs ms so.2)
-
-pub record-text : (r : Record) (m : BTreeMap (String Global) Tree) (text : List ℕ) → AreMembers r (members_view m.entries) → IsUtf8 text
-    → (depth (view (Object m)) ≤ max_depth → read text ≡ Some (view (Object m))) → (has_float (view (Object m)) ≡ false → text ≡ compact_text (view (Object m))) → IsRecordText r text
-record-text r m text so utf8 back is =
-    let flat : depth (view (Object m)) ≤ max_depth = omega (arith, ap depth (view-Object m), members-flat r (members_view m.entries) so) in
-    (view (Object m), (utf8, back flat), (members_view m.entries, so, view-Object m), is (ap has_float (view-Object m) ∙ members-exact r (members_view m.entries) so))
+pub flat-record : (r : Record) → depth (record_tree r) ≤ max_depth
+flat-record r = omega (arith, flat-members r)

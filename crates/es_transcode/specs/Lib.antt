@@ -7,4 +7,5 @@ pub mod Padded
 pub mod RecordText
 pub mod Spelled
 pub mod Texts
+pub mod Written
 pub mod inner

@@ -17,7 +17,7 @@ mod transcoding;
 mod tree;
 
 pub use decoding::{decode_record, decode_tree};
-pub use encoding::{encode_record, encode_tree};
+pub use encoding::{encode_record, write_record};
 pub use fault::DecodeFault;
 pub use hex::{id_of, id_text};
 pub use transcoding::{DatetimeAsIso, DecimalAsStr, Transcoding, UuidAsHex};

@@ -1,12 +1,7 @@
 -- What is written of an object.
-use Rattle.std.specs.Prelude.{◌≡◌, ℕ, List, [], ◌∷◌, ◌++◌}
+use Rattle.std.specs.Prelude.{◌≡◌, ℕ, List, [], ◌∷◌}
 use Rattle.json.specs.Token.{Token, begin_object, key, string}
 use Rattle.json.specs.Written.{Written}
-
--- the tokens are appended
-pub record Adds (old new : Written) (ts : List Token) : Type 0 where
-  pub before : new.before ≡ old.before
-  pub tokens : new.tokens ≡ old.tokens ++ ts
 
 -- the tokens of a member whose value is a text
 abbrev pub text_tokens : List ℕ → List ℕ → List Token

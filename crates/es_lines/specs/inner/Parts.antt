@@ -1,6 +1,6 @@
--- What the parts of a line are read as, and the version that is put into a command's tree.
-use Rattle.std.specs.Prelude.{ℕ, ◌≡◌, nat_le, Bool, ◌&&◌, codes, Option, None, Some, Result, Ok, Err}
-use Rattle.serde_json.specs.Data.{unsigned, number, Members, put}
+-- What the parts of a line are read as, and what is written of the version that a command expects.
+use Rattle.std.specs.Prelude.{ℕ, ◌≡◌, nat_le, Bool, ◌&&◌, List, [], ◌∷◌, codes, decimal, Option, None, Some, Result, Ok, Err}
+use Rattle.json.specs.Token.{Token, key, number}
 use Rattle.es_transcode.specs.declared.fault.DecodeFault.{DecodeFault}
 use Rattle.es_transcode.specs.declared.fault.DecodeFault.TheVariants as decode
 use Rattle.es_lines.specs.Requests.{Asked, asks, refused, is_expectable}
@@ -29,7 +29,7 @@ Tests asked r (Err f) = asked ≡ refused f
 abbrev pub is_from : ℕ → ℕ → Bool
 is_from least n = nat_le least n && is_expectable n
 
--- the expected version, if there is one, put at its place
-abbrev pub put_expected : Option ℕ → Members → Members
-put_expected None ms = ms
-put_expected (Some n) ms = put (codes "expect") (number (unsigned n)) ms
+-- the tokens of the expected version, if there is one
+abbrev pub expected_tokens : Option ℕ → List Token
+expected_tokens None = []
+expected_tokens (Some n) = key (codes "expect") ∷ number (decimal n) ∷ []

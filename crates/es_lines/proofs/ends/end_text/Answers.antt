@@ -1,6 +1,6 @@
 use Rattle.std.proofs.Common.{◌∙◌}
+use Rattle.es_transcode.proofs.WritingLemmas.{text-of}
 use Rattle.es_lines.specs.Texts.{end_tree}
-use Rattle.es_lines.proofs.ObjectLemmas.{text-of}
 use Rattle.es_lines.proofs.ends.end_text.Goals as goal
 
 pub returns : goal.returns

@@ -1,9 +1,10 @@
 use Rattle.std.proofs.Common.{subst}
 use Rattle.json.specs.Tree.{members_tokens}
 use Rattle.serde_json.specs.Written.{members_outline}
-use Rattle.es_lines.specs.inner.Objects.{Adds}
+use Rattle.es_transcode.specs.Written.{Adds}
+use Rattle.es_transcode.proofs.WritingLemmas.{one, both, last}
 use Rattle.es_lines.specs.Texts.{counts as count_members}
-use Rattle.es_lines.proofs.ObjectLemmas.{one, both, last, ending}
+use Rattle.es_lines.proofs.ObjectLemmas.{ending}
 use Rattle.es_lines.proofs.ends.write_ok.Goals as goal
 
 pub returns : goal.returns

@@ -1,4 +1,5 @@
-use Rattle.es_lines.proofs.ObjectLemmas.{one, both, text, last}
+use Rattle.es_transcode.proofs.WritingLemmas.{one, both, last}
+use Rattle.es_lines.proofs.ObjectLemmas.{text}
 use Rattle.es_lines.proofs.ends.write_turns.Goals as goal
 
 pub returns : goal.returns

@@ -1,7 +1,8 @@
 use Rattle.std.proofs.Common.{refl}
+use Rattle.es_transcode.proofs.WritingLemmas.{both}
 use Rattle.es_lines.specs.Texts.{reply_tree}
 use Rattle.es_lines.specs.declared.replies.Reply.TheVariants as reply
-use Rattle.es_lines.proofs.ObjectLemmas.{both, whole}
+use Rattle.es_lines.proofs.ObjectLemmas.{whole}
 use Rattle.es_lines.proofs.replies.conflict_text.Goals as goal
 
 pub returns : goal.returns

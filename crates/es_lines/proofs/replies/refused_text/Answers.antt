@@ -1,7 +1,8 @@
 use Rattle.std.proofs.Common.{refl}
+use Rattle.es_transcode.proofs.WritingLemmas.{both}
 use Rattle.es_lines.specs.Texts.{reply_tree}
 use Rattle.es_lines.specs.declared.replies.Reply.TheVariants as reply
-use Rattle.es_lines.proofs.ObjectLemmas.{both, text, whole}
+use Rattle.es_lines.proofs.ObjectLemmas.{text, whole}
 use Rattle.es_lines.proofs.replies.refused_text.Goals as goal
 
 pub returns : goal.returns

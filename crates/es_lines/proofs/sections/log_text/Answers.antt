@@ -1,6 +1,7 @@
+use Rattle.es_transcode.proofs.WritingLemmas.{one, both}
 use Rattle.es_lines.specs.Texts.{reply_tree}
 use Rattle.es_lines.specs.declared.replies.Reply.TheVariants.{Log}
-use Rattle.es_lines.proofs.ObjectLemmas.{one, both, whole}
+use Rattle.es_lines.proofs.ObjectLemmas.{whole}
 use Rattle.es_lines.proofs.SectionLemmas.{entries, log-whole}
 use Rattle.es_lines.proofs.sections.log_text.Goals as goal
 

@@ -1,5 +1,6 @@
 use Rattle.std.proofs.Common.{◌∙◌}
-use Rattle.es_lines.proofs.ObjectLemmas.{one, both, text}
+use Rattle.es_transcode.proofs.WritingLemmas.{one, both}
+use Rattle.es_lines.proofs.ObjectLemmas.{text}
 use Rattle.es_lines.proofs.SectionLemmas.{state}
 use Rattle.es_lines.proofs.sections.write_entry.Goals as goal
 
