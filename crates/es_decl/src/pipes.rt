@@ -1,4 +1,4 @@
-ghost use Rattle.std.specs.Prelude.{◌≡◌, IfOk, OnOk, map, filter, not};
+ghost use Rattle.std.specs.Prelude.{◌≡◌, ◌++◌, ◌∷◌, [], IfOk, OnOk, map, filter, not};
 ghost use Rattle.std.specs.List.{list_any};
 ghost use Rattle.std.specs.Str.{bytes_eq};
 ghost use Rattle.es_decl.specs.Pairs as spec;
@@ -64,6 +64,12 @@ fn has_name(names: &[Text], name: &Text) -> bool
     names.iter().any(|other| name.as_str() == other.as_str())
 }
 
+fn push_copy(names: &mut Names, name: &Text) -> Result<(), NoMemory>
+    ensures { OnOk result (names.new ≡ names.old ++ name.now ∷ []) }
+{
+    names.push(name.copy()?)
+}
+
 // Adds a name, unless it is there.
 fn add_name(names: &mut Names, name: &Text) -> Result<(), NoMemory>
     ensures { OnOk result (names.new ≡ spec.with_new bytes_eq names.old name.now) }
@@ -71,7 +77,7 @@ fn add_name(names: &mut Names, name: &Text) -> Result<(), NoMemory>
     if has_name(names.as_slice(), name) {
         return Ok(());
     }
-    names.push(name.copy()?)
+    push_copy(names, name)
 }
 
 fn leaders_in(alloc: Global, pairs: &[(Text, Text)]) -> Result<Names, NoMemory>
@@ -126,7 +132,7 @@ fn leaders_only_in(
     let mut names = List::new(alloc);
     for leader in leaders {
         if !follows(pairs, leader) {
-            names.push(leader.copy()?)?;
+            push_copy(&mut names, leader)?;
         }
     }
     Ok(names)
@@ -147,7 +153,7 @@ fn processors_in(alloc: Global, pairs: &[(Text, Text)], leaders: &[Text]) -> Res
     let mut names = List::new(alloc);
     for leader in leaders {
         if follows(pairs, leader) {
-            names.push(leader.copy()?)?;
+            push_copy(&mut names, leader)?;
         }
     }
     Ok(names)
@@ -168,7 +174,7 @@ fn followers_of_in(alloc: Global, pairs: &[(Text, Text)], leader: &Text) -> Resu
     let mut names = List::new(alloc);
     for pair in pairs {
         if pair.0.as_str() == leader.as_str() {
-            names.push(pair.1.copy()?)?;
+            push_copy(&mut names, &pair.1)?;
         }
     }
     Ok(names)

@@ -2,6 +2,7 @@
 use Rattle.std.proofs.Common.{ℤ, ℕ, ◌≡◌, ◌≤◌, ◌+◌, ◌-◌, length, take, drop, get_or, add-one, IsTrue, true, false, Bool, List, [], ◌∷◌, ◌++◌, Option, None, Some, Result, Ok, Err, IfOk, IfSome, OnOk, All, if◌then◌else◌, refl, sym, ap, subst, ◌∙◌, arith}
 use Rattle.std.proofs.lemmas.List.Elements.{All-push}
 use Rattle.std.proofs.lemmas.Slice.Eq.{bytes_eq-Decides}
+use Rattle.std.specs.Option.{option_or}
 use Rattle.std.specs.Str.{bytes_eq}
 use Rattle.es_model.specs.Declaration.{class_named, event_named}
 use Rattle.es_model.specs.Values.{Name, Id, Record, are_of_kinds}
@@ -121,6 +122,11 @@ pub placed_ready : (sys : System) (k : Class) (creates : Bool) (found : Option A
 placed_ready sys k creates None named placed known = tt
 placed_ready sys k true (Some a) named placed known = absurd (cc placed)
 placed_ready sys k false (Some a) named placed known = known-ready sys k a named (same-class (bytes_eq a.class k.name) a.class k.name refl placed) known
+
+-- where nothing is refused nothing was refused at first
+pub first_none : {A : Type 0} (first second : Option A) → option_or first second ≡ None → first ≡ None
+first_none None second none = refl
+first_none (Some a) second none = absurd (cc none)
 
 -- what is ready for no more triggers has changed
 pub effect_changed : (sys : System) (k : Class) (e : Effect) → class_named sys.classes k.name ≡ Some k → IsEffect sys k e → IsNewEffect sys e

@@ -1,12 +1,12 @@
 //! What a command does to an aggregate.
 ghost use Rattle.std.specs.Prelude.{ℕ, ◌≡◌, ◌<◌, ◌≤◌, ◌^◌, ◌+◌, None, Some, IfOk, IfSome, OnOk, length};
-ghost use Rattle.es_model.specs.Declaration.{class_named};
+ghost use Rattle.es_model.specs.Declaration.{class_named, is_creating};
 ghost use Rattle.es_expr.specs.Checked.{IsCheckedSystem};
 ghost use Rattle.es_expr.specs.Meaning.{den};
 ghost use Rattle.es_expr.specs.Sound.{IsTest};
 ghost use Rattle.es_domain.specs.Decision.{IsOfCommand};
-ghost use Rattle.es_domain.specs.Effect.{effect, effect_in, command_named, misplaced, seen, refusal_of, guarded, opened, fired, all_fired, triggered};
-ghost use Rattle.es_domain.specs.inner.Firing.{AreTests, IsReady, IsCommandOf, IsKnown, IsEffect, IsNewEffect, CanOpen, CanFire, CanAllFire, CanRun, Makes, MakesOf};
+ghost use Rattle.es_domain.specs.Effect.{effect, effect_in, effect_of, command_named, misplaced, seen, refusal_of, guarded, opened, fired, all_fired, triggered};
+ghost use Rattle.es_domain.specs.inner.Firing.{refused, AreTests, IsReady, IsCommandOf, IsKnown, IsEffect, IsNewEffect, CanOpen, CanFire, CanAllFire, CanRun, Makes, MakesOf};
 
 use crate::environment::{command_env, creating_env};
 use crate::fold::{id_value, moment_value, rises, version_value};
@@ -259,6 +259,68 @@ fn run(
     }
 }
 
+// The refusal of a declared command's guards.
+fn stopped(
+    alloc: Global,
+    definition: &CommandDef,
+    command: &Command,
+    at: Moment,
+    found: &Option<Aggregate>,
+) -> Result<Option<Text>, NoMemory>
+    requires version { IfSome found.now (λ a. a.version < 2 ^ 63) }
+    requires tests { AreTests definition.now.guards (seen command.now at found.now) }
+    ensures { IfOk result (λ code. code ≡ guarded definition.now.guards (seen command.now at found.now)) }
+{
+    let env = seen(alloc, command, at, found)?;
+    guarded(alloc, definition.guards.as_slice(), &env)
+}
+
+// The refusal of a declared command before any trigger.
+fn refused(
+    alloc: Global,
+    class: &Class,
+    definition: &CommandDef,
+    command: &Command,
+    at: Moment,
+    found: &Option<Aggregate>,
+) -> Result<Option<Text>, NoMemory>
+    requires version { IfSome found.now (λ a. a.version < 2 ^ 63) }
+    requires tests { misplaced (is_creating class.now definition.now.triggers) class.now found.now ≡ None → AreTests definition.now.guards (seen command.now at found.now) }
+    ensures { IfOk result (λ code. code ≡ refused class.now definition.now command.now at found.now) }
+{
+    let creates = class.is_creating(alloc, definition.triggers.as_slice())?;
+    match misplaced(alloc, creates, class, found)? {
+        Some(code) => Ok(Some(code)),
+        None => stopped(alloc, definition, command, at, found),
+    }
+}
+
+// What a declared command's triggers do.
+fn triggered(
+    alloc: Global,
+    sys: &System,
+    class: &Class,
+    definition: &CommandDef,
+    command: &Command,
+    at: Moment,
+    found: Option<Aggregate>,
+) -> Result<Effect, NoMemory>
+    requires checked { IsCheckedSystem sys.now }
+    requires class { class_named sys.now.classes command.now.class ≡ Some class.now }
+    requires few { length definition.now.triggers ≤ 8 }
+    requires ready { IfSome found (IsReady sys.now class.now 8) }
+    requires fields { CanRun class.now command.now at definition.now.triggers found }
+    ensures effect { IfOk result (λ e. e ≡ effect_of (triggered sys.now class.now command.now at definition.now.triggers found)) }
+    ensures ready { IfOk result (IsEffect sys.now class.now) }
+{
+    let triggers = definition.triggers.as_slice();
+    match run(alloc, sys, class, command, at, triggers, found) {
+        Ok(aggregate) => Ok(Effect::Changed(aggregate)),
+        Err(TriggerFault::Overflow) => Ok(Effect::Refused(Text::from_str(alloc, "overflow")?)),
+        Err(TriggerFault::NoMemory) => Err(NoMemory),
+    }
+}
+
 // What a declared command does.
 fn effect_in(
     alloc: Global,
@@ -275,19 +337,9 @@ fn effect_in(
     ensures effect { IfOk result (λ e. e ≡ effect_in sys.now class.now definition.now command.now at found) }
     ensures ready { IfOk result (IsEffect sys.now class.now) }
 {
-    let creates = class.is_creating(alloc, definition.triggers.as_slice())?;
-    if let Some(code) = misplaced(alloc, creates, class, &found)? {
-        return Ok(Effect::Refused(code));
-    }
-    let env = seen(alloc, command, at, &found)?;
-    if let Some(code) = guarded(alloc, definition.guards.as_slice(), &env)? {
-        return Ok(Effect::Refused(code));
-    }
-    let triggers = definition.triggers.as_slice();
-    match run(alloc, sys, class, command, at, triggers, found) {
-        Ok(aggregate) => Ok(Effect::Changed(aggregate)),
-        Err(TriggerFault::Overflow) => Ok(Effect::Refused(Text::from_str(alloc, "overflow")?)),
-        Err(TriggerFault::NoMemory) => Err(NoMemory),
+    match refused(alloc, class, definition, command, at, &found)? {
+        Some(code) => Ok(Effect::Refused(code)),
+        None => triggered(alloc, sys, class, definition, command, at, found),
     }
 }
 

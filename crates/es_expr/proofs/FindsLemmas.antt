@@ -16,6 +16,10 @@ pub stops : (xs ys : List Misfit) (h : Halt) → Finds xs (Err h) → Finds (xs 
 stops xs ys (Found m) found = first-append xs ys m found
 stops xs ys NoMemory found = tt
 
+-- a walk that goes through, with more behind it
+pub goes : (xs ys : List Misfit) (r : Result (Unit {0}) Halt) → xs ≡ [] → Finds ys r → Finds (xs ++ ys) r
+goes xs ys r none found = subst (λ ms. Finds (ms ++ ys) r) (sym none) found
+
 -- the faults of the items from a place on
 pub each-step : {A : Type 0} (faults : ℕ → A → List Misfit) (xs : List A) (from place : ℕ) (x : A) → place < length xs → x ≡ get_or xs place x → each faults from (drop place xs) ≡ faults from x ++ each faults (suc from) (drop (suc place) xs)
 each-step faults [] from place x within is = absurd (omega arith)

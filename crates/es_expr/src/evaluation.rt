@@ -31,7 +31,7 @@ fn found(name: &Text, env: &Fields) -> Result<Value, Trouble>
 fn one(alloc: Global, op: Unary, a: &Expr, env: &Fields) -> Result<Value, Trouble>
     ensures { Evaluates (meant_of_one op (den a.now env.now)) result }
 {
-    of_one(alloc, op, value_of(alloc, a, env)?)
+    of_one(alloc, op, &value_of(alloc, a, env)?)
 }
 
 #[cycle(evaluation)]
@@ -41,7 +41,7 @@ fn two(alloc: Global, op: Binary, a: &Expr, b: &Expr, env: &Fields) -> Result<Va
     let left = value_of(alloc, a, env)?;
     match decision(op, &left) {
         Some(truth) => Ok(Value::One(Atom::Bool(truth))),
-        None => of_two(alloc, op, left, value_of(alloc, b, env)?),
+        None => of_two(alloc, op, &left, &value_of(alloc, b, env)?),
     }
 }
 

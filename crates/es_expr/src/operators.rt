@@ -1,4 +1,4 @@
-ghost use Rattle.std.specs.Prelude.{◌≡◌, ◌++◌, IfOk, pos};
+ghost use Rattle.std.specs.Prelude.{◌≡◌, ◌++◌, ◌∷◌, [], IfOk, pos};
 ghost use Rattle.std.specs.Bool.{Decides};
 ghost use Rattle.std.specs.Fmt.{signed_decimal};
 ghost use Rattle.std.specs.List.{list_any};
@@ -12,7 +12,7 @@ ghost use Rattle.es_expr.specs.Outcome.{bind, within, is_within as within_limits
 use crate::fault::Trouble;
 use es_model::limits::{MOST_ITEMS, MOST_TEXT_BYTES};
 use es_model::operators::{Binary, Unary};
-use es_model::{Atom, Decimal, NoMemory, Text, Value};
+use es_model::{Atom, Atoms, Decimal, Duplicate, NoMemory, Text, Value};
 use std::alloc::Global;
 use uuid::Uuid;
 
@@ -39,11 +39,11 @@ pub(crate) fn limited(value: Value) -> Result<Value, Trouble>
     }
 }
 
-fn sum(a: Value, b: Value) -> Result<Value, Trouble>
-    ensures { Evaluates (bind (meant.sum a b) within) result }
+fn sum(a: &Value, b: &Value) -> Result<Value, Trouble>
+    ensures { Evaluates (bind (meant.sum a.now b.now) within) result }
 {
     match (a, b) {
-        (Value::One(Atom::Int(x)), Value::One(Atom::Int(y))) => match x.checked_add(y) {
+        (Value::One(Atom::Int(x)), Value::One(Atom::Int(y))) => match x.checked_add(*y) {
             Some(z) => Ok(Value::One(Atom::Int(z))),
             None => Err(Trouble::Over),
         },
@@ -51,11 +51,11 @@ fn sum(a: Value, b: Value) -> Result<Value, Trouble>
     }
 }
 
-fn difference(a: Value, b: Value) -> Result<Value, Trouble>
-    ensures { Evaluates (bind (meant.difference a b) within) result }
+fn difference(a: &Value, b: &Value) -> Result<Value, Trouble>
+    ensures { Evaluates (bind (meant.difference a.now b.now) within) result }
 {
     match (a, b) {
-        (Value::One(Atom::Int(x)), Value::One(Atom::Int(y))) => match x.checked_sub(y) {
+        (Value::One(Atom::Int(x)), Value::One(Atom::Int(y))) => match x.checked_sub(*y) {
             Some(z) => Ok(Value::One(Atom::Int(z))),
             None => Err(Trouble::Over),
         },
@@ -63,11 +63,11 @@ fn difference(a: Value, b: Value) -> Result<Value, Trouble>
     }
 }
 
-fn product(a: Value, b: Value) -> Result<Value, Trouble>
-    ensures { Evaluates (bind (meant.product a b) within) result }
+fn product(a: &Value, b: &Value) -> Result<Value, Trouble>
+    ensures { Evaluates (bind (meant.product a.now b.now) within) result }
 {
     match (a, b) {
-        (Value::One(Atom::Int(x)), Value::One(Atom::Int(y))) => match x.checked_mul(y) {
+        (Value::One(Atom::Int(x)), Value::One(Atom::Int(y))) => match x.checked_mul(*y) {
             Some(z) => Ok(Value::One(Atom::Int(z))),
             None => Err(Trouble::Over),
         },
@@ -157,29 +157,29 @@ fn at_most(a: &Value, b: &Value) -> Result<Value, Trouble>
     }
 }
 
-fn negation(a: Value) -> Result<Value, Trouble>
-    ensures { Evaluates (bind (meant.negation a) within) result }
+fn negation(a: &Value) -> Result<Value, Trouble>
+    ensures { Evaluates (bind (meant.negation a.now) within) result }
 {
     match a {
-        Value::One(Atom::Bool(x)) => truth(!x),
+        Value::One(Atom::Bool(x)) => truth(!*x),
         _ => Err(Trouble::Stuck),
     }
 }
 
-fn conjunction(a: Value, b: Value) -> Result<Value, Trouble>
-    ensures { Evaluates (bind (meant.conjunction a b) within) result }
+fn conjunction(a: &Value, b: &Value) -> Result<Value, Trouble>
+    ensures { Evaluates (bind (meant.conjunction a.now b.now) within) result }
 {
     match (a, b) {
-        (Value::One(Atom::Bool(x)), Value::One(Atom::Bool(y))) => truth(x && y),
+        (Value::One(Atom::Bool(x)), Value::One(Atom::Bool(y))) => truth(*x && *y),
         _ => Err(Trouble::Stuck),
     }
 }
 
-fn disjunction(a: Value, b: Value) -> Result<Value, Trouble>
-    ensures { Evaluates (bind (meant.disjunction a b) within) result }
+fn disjunction(a: &Value, b: &Value) -> Result<Value, Trouble>
+    ensures { Evaluates (bind (meant.disjunction a.now b.now) within) result }
 {
     match (a, b) {
-        (Value::One(Atom::Bool(x)), Value::One(Atom::Bool(y))) => truth(x || y),
+        (Value::One(Atom::Bool(x)), Value::One(Atom::Bool(y))) => truth(*x || *y),
         _ => Err(Trouble::Stuck),
     }
 }
@@ -214,14 +214,21 @@ fn joined(alloc: Global, a: &Value, b: &Value) -> Result<Value, Trouble>
     }
 }
 
-fn appended(a: Value, b: Value) -> Result<Value, Trouble>
-    ensures { Evaluates (bind (meant.appended a b) within) result }
+// The items of a list, and one more.
+fn with_one_more(items: &Atoms, item: &Atom) -> Result<Atoms, NoMemory>
+    ensures { IfOk result (λ all. all ≡ items.now ++ item.now ∷ []) }
+{
+    let mut all = items.copy()?;
+    all.push(item.copy()?)?;
+    Ok(all)
+}
+
+fn appended(a: &Value, b: &Value) -> Result<Value, Trouble>
+    ensures { Evaluates (bind (meant.appended a.now b.now) within) result }
 {
     match (a, b) {
         (Value::List(items), Value::One(item)) => {
-            let mut all = items;
-            all.push(item)?;
-            limited(Value::List(all))
+            limited(Value::List(with_one_more(items, item)?))
         }
         _ => Err(Trouble::Stuck),
     }
@@ -299,32 +306,32 @@ fn derived(a: &Value, b: &Value) -> Result<Value, Trouble>
     }
 }
 
-pub(crate) fn of_one(alloc: Global, op: Unary, a: Value) -> Result<Value, Trouble>
-    ensures { Evaluates (bind (meant.apply_one op a) within) result }
+pub(crate) fn of_one(alloc: Global, op: Unary, a: &Value) -> Result<Value, Trouble>
+    ensures { Evaluates (bind (meant.apply_one op a.now) within) result }
 {
     match op {
         Unary::Not => negation(a),
-        Unary::Len => size(&a),
-        Unary::Show => shown(alloc, &a),
+        Unary::Len => size(a),
+        Unary::Show => shown(alloc, a),
     }
 }
 
-pub(crate) fn of_two(alloc: Global, op: Binary, a: Value, b: Value) -> Result<Value, Trouble>
-    ensures { Evaluates (bind (meant.apply op a b) within) result }
+pub(crate) fn of_two(alloc: Global, op: Binary, a: &Value, b: &Value) -> Result<Value, Trouble>
+    ensures { Evaluates (bind (meant.apply op a.now b.now) within) result }
 {
     match op {
         Binary::Add => sum(a, b),
         Binary::Sub => difference(a, b),
         Binary::Mul => product(a, b),
-        Binary::Eq => truth(is_equal(&a, &b)),
-        Binary::Ne => truth(!is_equal(&a, &b)),
-        Binary::Lt => less(&a, &b),
-        Binary::Le => at_most(&a, &b),
+        Binary::Eq => truth(is_equal(a, b)),
+        Binary::Ne => truth(!is_equal(a, b)),
+        Binary::Lt => less(a, b),
+        Binary::Le => at_most(a, b),
         Binary::And => conjunction(a, b),
         Binary::Or => disjunction(a, b),
-        Binary::Concat => joined(alloc, &a, &b),
+        Binary::Concat => joined(alloc, a, b),
         Binary::Append => appended(a, b),
-        Binary::Contains => contained(&a, &b),
-        Binary::Uuid5 => derived(&a, &b),
+        Binary::Contains => contained(a, b),
+        Binary::Uuid5 => derived(a, b),
     }
 }

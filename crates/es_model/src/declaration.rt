@@ -1,5 +1,6 @@
 ghost use Rattle.std.specs.Prelude.{◌≡◌, IfOk};
 
+use crate::memory::both;
 use crate::{Duplicate, Expr, Kind, List, NoMemory, Rising, Text, Value};
 
 /// Names in the order of their declaration.
@@ -137,20 +138,28 @@ pub enum Code {
 
 impl Duplicate for System {
     fn copy(&self) -> Result<System, NoMemory> {
+        let ((apps, classes), pipes) = both(
+            both(self.apps.copy(), self.classes.copy()),
+            self.pipes.copy(),
+        )?;
         Ok(System {
-            apps: self.apps.copy()?,
-            classes: self.classes.copy()?,
-            pipes: self.pipes.copy()?,
+            apps,
+            classes,
+            pipes,
         })
     }
 }
 
 impl Duplicate for App {
     fn copy(&self) -> Result<App, NoMemory> {
+        let ((name, classes), policies) = both(
+            both(self.name.copy(), self.classes.copy()),
+            self.policies.copy(),
+        )?;
         Ok(App {
-            name: self.name.copy()?,
-            classes: self.classes.copy()?,
-            policies: self.policies.copy()?,
+            name,
+            classes,
+            policies,
             section_size: self.section_size,
         })
     }
@@ -158,55 +167,66 @@ impl Duplicate for App {
 
 impl Duplicate for Class {
     fn copy(&self) -> Result<Class, NoMemory> {
+        let ((name, fields), (created, (events, commands))) = both(
+            both(self.name.copy(), self.fields.copy()),
+            both(
+                self.created.copy(),
+                both(self.events.copy(), self.commands.copy()),
+            ),
+        )?;
         Ok(Class {
-            name: self.name.copy()?,
+            name,
             version: self.version,
             interval: self.interval,
-            fields: self.fields.copy()?,
-            created: self.created.copy()?,
-            events: self.events.copy()?,
-            commands: self.commands.copy()?,
+            fields,
+            created,
+            events,
+            commands,
         })
     }
 }
 
 impl Duplicate for EventClass {
     fn copy(&self) -> Result<EventClass, NoMemory> {
+        let ((topic, fields), (upcasts, assigns)) = both(
+            both(self.topic.copy(), self.fields.copy()),
+            both(self.upcasts.copy(), self.assigns.copy()),
+        )?;
         Ok(EventClass {
-            topic: self.topic.copy()?,
-            fields: self.fields.copy()?,
-            upcasts: self.upcasts.copy()?,
-            assigns: self.assigns.copy()?,
+            topic,
+            fields,
+            upcasts,
+            assigns,
         })
     }
 }
 
 impl Duplicate for CommandDef {
     fn copy(&self) -> Result<CommandDef, NoMemory> {
+        let ((name, params), (guards, triggers)) = both(
+            both(self.name.copy(), self.params.copy()),
+            both(self.guards.copy(), self.triggers.copy()),
+        )?;
         Ok(CommandDef {
-            name: self.name.copy()?,
-            params: self.params.copy()?,
-            guards: self.guards.copy()?,
-            triggers: self.triggers.copy()?,
+            name,
+            params,
+            guards,
+            triggers,
         })
     }
 }
 
 impl Duplicate for Guard {
     fn copy(&self) -> Result<Guard, NoMemory> {
-        Ok(Guard {
-            that: self.that.copy()?,
-            code: self.code.copy()?,
-        })
+        let (that, code) = both(self.that.copy(), self.code.copy())?;
+        Ok(Guard { that, code })
     }
 }
 
 impl Duplicate for Trigger {
     fn copy(&self) -> Result<Trigger, NoMemory> {
-        Ok(Trigger {
-            event: self.event.copy()?,
-            fields: self.fields.copy()?,
-        })
+        let (event, fields) = both(self.event.copy(), self.fields.copy())?;
+        Ok(Trigger { event, fields })
     }
 }
 
@@ -214,28 +234,29 @@ impl Duplicate for Trigger {
 fn condition(rule: &Rule) -> Result<(Option<Text>, Option<Expr>), NoMemory>
     ensures { IfOk result (λ c. (c.0 ≡ rule.now.leader) × (c.1 ≡ rule.now.when)) }
 {
-    Ok((rule.leader.copy()?, rule.when.copy()?))
+    both(rule.leader.copy(), rule.when.copy())
 }
 
 // A copy of the command that a rule runs: its name, and the arguments.
 fn call(rule: &Rule) -> Result<(Text, Assigns), NoMemory>
     ensures { IfOk result (λ c. (c.0 ≡ rule.now.command) × (c.1 ≡ rule.now.args)) }
 {
-    Ok((rule.command.copy()?, rule.args.copy()?))
+    both(rule.command.copy(), rule.args.copy())
 }
 
 // A copy of what a rule goes by: its topic, and the aggregate that the command is for.
 fn aim(rule: &Rule) -> Result<(Text, Expr), NoMemory>
     ensures { IfOk result (λ c. (c.0 ≡ rule.now.topic) × (c.1 ≡ rule.now.target)) }
 {
-    Ok((rule.topic.copy()?, rule.target.copy()?))
+    both(rule.topic.copy(), rule.target.copy())
 }
 
 impl Duplicate for Rule {
     fn copy(&self) -> Result<Rule, NoMemory> {
-        let (command, args) = call(self)?;
-        let (topic, target) = aim(self)?;
-        let (leader, when) = condition(self)?;
+        let ((topic, target), ((leader, when), (command, args))) = both(
+            aim(self),
+            both(condition(self), call(self)),
+        )?;
         Ok(Rule {
             topic,
             leader,
@@ -251,14 +272,14 @@ impl Duplicate for Rule {
 impl Duplicate for Edit {
     fn copy(&self) -> Result<Edit, NoMemory> {
         match self {
-            Edit::Add { name, value } => Ok(Edit::Add {
-                name: name.copy()?,
-                value: value.copy()?,
-            }),
-            Edit::Rename { from, to } => Ok(Edit::Rename {
-                from: from.copy()?,
-                to: to.copy()?,
-            }),
+            Edit::Add { name, value } => {
+                let (name, value) = both(name.copy(), value.copy())?;
+                Ok(Edit::Add { name, value })
+            }
+            Edit::Rename { from, to } => {
+                let (from, to) = both(from.copy(), to.copy())?;
+                Ok(Edit::Rename { from, to })
+            }
             Edit::Drop { name } => Ok(Edit::Drop { name: name.copy()? }),
         }
     }

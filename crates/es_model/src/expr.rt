@@ -2,6 +2,7 @@ ghost use Rattle.std.specs.Prelude.{◌≡◌, IfOk};
 ghost use Rattle.es_model.specs.OperatorWords.{over_one, over_two};
 ghost use Rattle.es_model.specs.declared.expr.Expr as expr;
 
+use crate::memory::both;
 use crate::operators::{Binary, Unary};
 use crate::{AtomKind, Boxed, Decimal, Duplicate, Moment, NoMemory, Text};
 use uuid::Uuid;
@@ -58,8 +59,7 @@ fn one(operator: Unary, a: &Boxed<Expr>) -> Result<Expr, NoMemory>
 fn two(operator: Binary, a: &Boxed<Expr>, b: &Boxed<Expr>) -> Result<Expr, NoMemory>
     ensures { IfOk result (λ c. c ≡ over_two operator a.now b.now) }
 {
-    let a = copied(a)?;
-    let b = copied(b)?;
+    let (a, b) = both(copied(a), copied(b))?;
     Ok(operator.over(a, b))
 }
 
@@ -68,9 +68,7 @@ fn two(operator: Binary, a: &Boxed<Expr>, b: &Boxed<Expr>) -> Result<Expr, NoMem
 fn choice(a: &Boxed<Expr>, b: &Boxed<Expr>, c: &Boxed<Expr>) -> Result<Expr, NoMemory>
     ensures { IfOk result (λ e. e ≡ expr.If a.now b.now c.now) }
 {
-    let a = copied(a)?;
-    let b = copied(b)?;
-    let c = copied(c)?;
+    let (a, (b, c)) = both(copied(a), both(copied(b), copied(c)))?;
     Ok(Expr::If(a, b, c))
 }
 

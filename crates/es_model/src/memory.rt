@@ -1,4 +1,4 @@
-ghost use Rattle.std.specs.Prelude.{◌≡◌, IfOk};
+ghost use Rattle.std.specs.Prelude.{◌≡◌, Ok, IfOk};
 
 use std::alloc::{AllocError, AllocFailed};
 use thiserror::Error;
@@ -42,9 +42,20 @@ impl<T: Duplicate> Duplicate for Option<T> {
     }
 }
 
+// Both of two values that were made, or want of memory, which lets the other one go.
+pub(crate) fn both<A: Drop, B: Drop>(
+    first: Result<A, NoMemory>,
+    second: Result<B, NoMemory>,
+) -> Result<(A, B), NoMemory>
+    ensures { IfOk result (λ made. (first ≡ Ok made.0) × (second ≡ Ok made.1)) }
+{
+    let first = first?;
+    Ok((first, second?))
+}
+
 impl<A: Duplicate, B: Duplicate> Duplicate for (A, B) {
     fn copy(&self) -> Result<(A, B), NoMemory> {
-        Ok((self.0.copy()?, self.1.copy()?))
+        both(self.0.copy(), self.1.copy())
     }
 }
 

@@ -1,6 +1,7 @@
 -- When the guards and triggers of a command may be evaluated, and what triggers answer.
 use Rattle.std.specs.Prelude.{ℤ, ℕ, ◌≡◌, ◌<◌, ◌+◌, ◌^◌, ◌-◌, IsTrue, All, List, [], ◌∷◌, Option, None, Some, Result, Ok, Err}
-use Rattle.es_model.specs.Declaration.{class_named, command_in}
+use Rattle.std.specs.Option.{option_or}
+use Rattle.es_model.specs.Declaration.{class_named, command_in, is_creating}
 use Rattle.es_model.specs.Rising.{IsRising}
 use Rattle.es_model.specs.Values.{Name, Record, are_of_kinds}
 use Rattle.es_model.specs.declared.declaration.Class.{Class}
@@ -12,7 +13,7 @@ use Rattle.es_model.specs.declared.declaration.Trigger.{Trigger}
 use Rattle.es_model.specs.Names.{topic_of}
 use Rattle.es_expr.specs.Sound.{IsTest}
 use Rattle.es_domain.specs.Decision.{IsNewEvent}
-use Rattle.es_domain.specs.Effect.{seen}
+use Rattle.es_domain.specs.Effect.{guarded, misplaced, seen}
 use Rattle.es_domain.specs.inner.Evaluation.{AreChecked}
 use Rattle.es_domain.specs.Fold.{later_in}
 use Rattle.es_domain.specs.Steps.{HasItsFields}
@@ -38,6 +39,10 @@ pub record IsReady (sys : System) (k : Class) (more : ℕ) (a : Aggregate) : Typ
 -- an event is a later one of an aggregate's class
 abbrev pub IsLater : System → Aggregate → EventClass → Type 0
 IsLater sys a k = (topic : Name) × (later_in (class_named sys.classes a.class) topic ≡ Some k)
+
+-- the refusal before any trigger: where the aggregate is misplaced, then of the guards
+abbrev pub refused : Class → CommandDef → Command → ℤ → Option Aggregate → Option Name
+refused k d c at found = option_or (misplaced (is_creating k d.triggers) k found) (guarded d.guards (seen c at found))
 
 -- a trigger gives the fields of a Created event
 abbrev pub CanOpen : Class → Command → ℤ → Trigger → Type 0

@@ -67,6 +67,7 @@ fn named_member(
 }
 
 // The members of an object of expressions, which has some of the wanted ones.
+#[tactic(auto, using(crate::proofs::FindsLemmas::stops))]
 pub(crate) fn some_members(
     alloc: Global,
     wanted: &Kinds,
