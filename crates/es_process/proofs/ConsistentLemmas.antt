@@ -16,29 +16,29 @@ use Rattle.es_process.proofs.AmongLemmas.{put-each}
 use Rattle.es_process.proofs.FollowsLemmas.{Grows, Grows-put, logs-grow, slice_get-front, Follows-grows, Follows-opening, Follows-push, Follows-longer}
 
 -- the log of a front of a history is no longer than that of a longer front of a later one
-log_front : (g rest : List Recording) (n m : ℕ) → n ≤ m → length (log (take n g)) ≤ length (log (take m (g ++ rest)))
+pub log_front : (g rest : List Recording) (n m : ℕ) → n ≤ m → length (log (take n g)) ≤ length (log (take m (g ++ rest)))
 log_front g rest zero m le = omega arith
 log_front g rest (suc n) zero le = absurd (omega arith)
 log_front [] rest (suc n) (suc m) le = omega arith
 log_front (r ∷ g) rest (suc n) (suc m) le = omega (arith, length-append r.events (log (take n g)), length-append r.events (log (take m (g ++ rest))), log_front g rest n m (omega arith))
 
-front_up : (h : Histories) (fronts : Fronts) (front : ℕ) (o : Option Recording) → front ≤ next_front h fronts front o
+pub front_up : (h : Histories) (fronts : Fronts) (front : ℕ) (o : Option Recording) → front ≤ next_front h fronts front o
 front_up h fronts front None = omega arith
 front_up h fronts front (Some r) = elim (may_take h fronts r.cause) as (λ b. front ≤ (if b then front + 1 else front)) [ true ↦ omega arith | false ↦ omega arith ]
 
-front_step : (h : Histories) (fronts : Fronts) (front : ℕ) (o : Option Recording) → next_front h fronts front o ≤ front + 1
+pub front_step : (h : Histories) (fronts : Fronts) (front : ℕ) (o : Option Recording) → next_front h fronts front o ≤ front + 1
 front_step h fronts front None = omega arith
 front_step h fronts front (Some r) = elim (may_take h fronts r.cause) as (λ b. (if b then front + 1 else front) ≤ front + 1) [ true ↦ omega arith | false ↦ omega arith ]
 
 -- a front passes no recording that isn't there
-front_within : (h : Histories) (fronts : Fronts) (x : List Recording) (front : ℕ) → front ≤ length x → next_front h fronts front (slice_get x front) ≤ length x
+pub front_within : (h : Histories) (fronts : Fronts) (x : List Recording) (front : ℕ) → front ≤ length x → next_front h fronts front (slice_get x front) ≤ length x
 front_within h fronts x front le = here (slice_get x front) refl
   where
     here : (o : Option Recording) → slice_get x front ≡ o → next_front h fronts front o ≤ length x
     here None is = le
     here (Some r) is = omega (arith, slice_get_within x front r is, front_step h fronts front (Some r))
 
-rounds_within : (h openings : Histories) (app : Name) → length (openings app) ≤ length (h app) → (n : ℕ) → rounds n h (lengths_of openings) app ≤ length (h app)
+pub rounds_within : (h openings : Histories) (app : Name) → length (openings app) ≤ length (h app) → (n : ℕ) → rounds n h (lengths_of openings) app ≤ length (h app)
 unfolding rounds
 rounds_within h openings app le zero = le
 rounds_within h openings app le (suc n) = front_within h (rounds n h (lengths_of openings)) (h app) (rounds n h (lengths_of openings) app) (rounds_within h openings app le n)

@@ -57,7 +57,7 @@ pub ahead-first : (h : Histories) (p : Name × Name) (pairs : List (Name × Name
 ahead-first h p pairs a is = first_of_both (nat_lt (last_of h p) (tracked_of h p)) (record { app = p.1; leader = p.0; tracked = tracked_of h p; last = last_of h p }) a (ahead pairs h) is
 
 -- where nothing is ahead, no follower tracks past its leader's last notification
-none_ahead : (pairs : List (Name × Name)) (h : Histories) → ahead pairs h ≡ None → (p : Name × Name) → Contains pairs p → tracked_of h p ≤ last_of h p
+pub none_ahead : (pairs : List (Name × Name)) (h : Histories) → ahead pairs h ≡ None → (p : Name × Name) → Contains pairs p → tracked_of h p ≤ last_of h p
 none_ahead [] h is p so = contains-none p so
 none_ahead (q ∷ pairs) h is p so =
     let passed = passed_by (nat_lt (last_of h q) (tracked_of h q)) (record { app = q.1; leader = q.0; tracked = tracked_of h q; last = last_of h q }) (ahead pairs h) is in
