@@ -70,6 +70,7 @@ impl FuseRecorder {
 }
 
 impl AggregateRecorder for FuseRecorder {
+    ghost use Rattle.std.proofs.Common.{refl};
     ghost use Rattle.es_model.specs.declared.memory.CallFault.TheVariants as fault;
     ghost use Rattle.es_recorder.specs.Puts.{PutsTold};
     ghost use Rattle.es_recorder.specs.Selections.{select_events, AreVersions, snapshots_upto, IsNewest};
@@ -79,6 +80,8 @@ impl AggregateRecorder for FuseRecorder {
     ghost history = { λ r. Some r.inner.history };
 
     ghost stable = { λ r. Some r.inner.history };
+
+    ghost settled = { λ _. true };
 
     ghost snapshots = { λ r. Some r.inner.snapshots.items };
 
@@ -91,6 +94,8 @@ impl AggregateRecorder for FuseRecorder {
     ghost formed = { λ r. r.inner.formed };
 
     ghost stable_is_front = { λ r. IsPrefixTold-same (Some r.inner.history) };
+
+    ghost settled_is_whole = { λ r settled. refl };
 
     ghost snapshots_once = { λ r. r.inner.snapshots.once };
 

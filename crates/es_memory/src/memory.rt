@@ -144,7 +144,8 @@ impl MemoryRecorder {
 }
 
 impl AggregateRecorder for MemoryRecorder {
-    ghost use Rattle.std.specs.Prelude.{Some, None, Ok};
+    ghost use Rattle.std.specs.Prelude.{Some, None, Ok, true};
+    ghost use Rattle.std.proofs.Common.{refl};
     ghost use Rattle.es_model.specs.declared.memory.CallFault.TheVariants as fault;
     ghost use Rattle.es_model.specs.History.{latest};
     ghost use Rattle.es_model.specs.Snapshots.{IsSmallSnapshot};
@@ -155,6 +156,8 @@ impl AggregateRecorder for MemoryRecorder {
     ghost history = { λ r. Some r.history };
 
     ghost stable = { λ r. Some r.history };
+
+    ghost settled = { λ _. true };
 
     ghost snapshots = { λ r. Some r.snapshots.items };
 
@@ -167,6 +170,8 @@ impl AggregateRecorder for MemoryRecorder {
     ghost formed = { λ r. r.formed };
 
     ghost stable_is_front = { λ r. IsPrefixTold-same (Some r.history) };
+
+    ghost settled_is_whole = { λ r settled. refl };
 
     ghost snapshots_once = { λ r. r.snapshots.once };
 

@@ -111,11 +111,14 @@ fn take_out(alloc: Global, content: &mut Content) -> Option<Taken>
 
 impl Stores for MemoryStores {
     ghost use Rattle.std.specs.Prelude.{Some};
+    ghost use Rattle.es_recorder.specs.Stable.{IsPrefix-same};
     ghost use Rattle.es_memory.specs.Contents.{histories_of, snapshots_of, flag_of, histories_of-formed, snapshots_of-once};
 
     type R = MemoryRecorder;
 
     ghost held = { λ s. Some (histories_of s.contents.items) };
+
+    ghost stable = { λ s. Some (histories_of s.contents.items) };
 
     ghost snapshots = { λ s. Some (snapshots_of s.contents.items) };
 
@@ -124,6 +127,8 @@ impl Stores for MemoryStores {
     ghost faults = { λ s. s.faults };
 
     ghost formed = { λ s. histories_of-formed s.contents.items s.formed };
+
+    ghost stable_is_front = { λ s name. IsPrefix-same (histories_of s.contents.items name) };
 
     ghost snapshots_once = { λ s. snapshots_of-once s.contents.items };
 

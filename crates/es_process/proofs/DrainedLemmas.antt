@@ -31,9 +31,9 @@ came_reached t s next steps goes none =
     subst (λ (c : Contents). IsReached t.rules.pairs c.histories) goes.left
     (reached-from t.rules t.options s.contents (stand s (leaders_in t.rules.pairs) [] [] 0) (record { steps = steps; end = ok counts 0 }) (leaders-chase t.rules t.options s.contents s.readings s.used [] 0) run counts 0 refl none)
 
-module _ {R : Type 0} (history : R → Option (List Recording)) (snapshots : R → Option (List Snapshot)) (capacity : R → ℕ) (base : Contents) (o : Options) (apps : List (Application R)) (readings : Option Readings) where
+module _ {R : Type 0} (history stable : R → Option (List Recording)) (settled : R → Bool) (snapshots : R → Option (List Snapshot)) (capacity : R → ℕ) (base : Contents) (o : Options) (apps : List (Application R)) (readings : Option Readings) where
   -- what the applications tell is what the state has
-  told_alike : (s : State) (c : Contents) → Holds history snapshots capacity base o apps readings s → HoldContents history snapshots base apps c → (n : Name) → c.histories n ≡ s.contents.histories n
+  told_alike : (s : State) (c : Contents) → Holds history settled snapshots capacity base o apps readings s → HoldContents history stable snapshots base apps c → (n : Name) → c.histories n ≡ s.contents.histories n
   told_alike s c held kept n = by (is_among n (names_in apps)) refl
     where
       by : (b : Bool) → is_among n (names_in apps) ≡ b → c.histories n ≡ s.contents.histories n
@@ -45,10 +45,10 @@ module _ {R : Type 0} (history : R → Option (List Recording)) (snapshots : R �
           ap c.histories (sym a.2) ∙ same ∙ ap s.contents.histories a.2
       by false is = kept.elsewhere.histories n is ∙ sym (held.elsewhere.histories n is)
 
-  pub drained-reached : (t : Terms) (s : State) (prompted : List Name) (u : Option (List ℕ)) (result : Result (Unit {0}) RunFault) → Drains t s (Holds history snapshots capacity base o apps readings) (HoldContents history snapshots base apps) prompted u result
-      → prompted ≡ leaders_in t.rules.pairs → ahead t.rules.pairs s.contents.histories ≡ None → OnOk result ((left : Contents) → HoldContents history snapshots base apps left → IsReached t.rules.pairs left.histories)
+  pub drained-reached : (t : Terms) (s : State) (prompted : List Name) (u : Option (List ℕ)) (result : Result (Unit {0}) RunFault) → Drains t s (Holds history settled snapshots capacity base o apps readings) (HoldContents history stable snapshots base apps) prompted u result
+      → prompted ≡ leaders_in t.rules.pairs → ahead t.rules.pairs s.contents.histories ≡ None → OnOk result ((left : Contents) → HoldContents history stable snapshots base apps left → IsReached t.rules.pairs left.histories)
   drained-reached t s prompted u (Ok x) so all none =
-      let came = subst (λ ns. Came t (standing s ns []) (Holds history snapshots capacity base o apps readings) u u (λ next. standing next [] [])) all so in
+      let came = subst (λ ns. Came t (standing s ns []) (Holds history settled snapshots capacity base o apps readings) u u (λ next. standing next [] [])) all so in
       let reached = came_reached t s came.state came.steps (came.goes (record { openings = s.contents.histories; lines = []; answered = 0 })) none in
       λ left kept p declared.
       ap (λ h. tracked_in h p.0) (told_alike came.state left came.held kept p.1) ∙ reached p declared ∙ ap (λ h. length (log h)) (sym (told_alike came.state left came.held kept p.0))

@@ -1,12 +1,15 @@
 -- What applications hold after one of them changed.
-use Rattle.std.proofs.Common.{◌≡◌, ◌≤◌, inl, inr, ℕ, zero, suc, true, false, List, [], ◌∷◌, ◌++◌, Option, Some, None, Contains, slice_get, slice_set, option_map, refl, sym, ap, ◌∙◌, subst, arith}
+use Rattle.std.proofs.Common.{◌≡◌, ◌≤◌, inl, inr, ℕ, Bool, zero, suc, true, false, List, [], ◌∷◌, ◌++◌, Option, Some, None, Contains, length, slice_get, slice_set, option_map, refl, sym, ap, ◌∙◌, subst, arith}
 use Rattle.std.proofs.lemmas.Option.{slice_get-map}
 use Rattle.es_model.specs.Causes.{Rose}
+use Rattle.es_model.specs.History.{log}
+use Rattle.es_model.specs.Tracking.{tracked_in}
 use Rattle.es_model.specs.Values.{Name}
 use Rattle.es_model.specs.declared.event.Recording.{Recording}
 use Rattle.es_model.specs.declared.snapshot.Snapshot.{Snapshot}
 use Rattle.es_model.specs.Snapshots.{put_snapshot}
 use Rattle.es_io.specs.Readings.{Readings}
+use Rattle.es_recorder.specs.Stable.{GrowsTold}
 use Rattle.es_model.specs.declared.memory.CallFault.{CallFault}
 use Rattle.es_model.specs.declared.memory.CallFault.TheVariants as call
 use Rattle.es_process.specs.declared.application.Application.{Application}
@@ -17,9 +20,10 @@ use Rattle.es_process.specs.Answer.{Options, put_each}
 use Rattle.es_process.specs.Contents.{Contents, added, snapped}
 use Rattle.es_process.specs.Leaves.{Tells}
 use Rattle.es_process.specs.SingleThread.{is_among}
-use Rattle.es_process.specs.Standing.{State, HoldsOne, Holds, TellsContents, HoldContents, AreElsewhere, IsKeptElsewhere, AreDistinct, Stays, IsSame, AllStay, names_in, faults_at, count_of, Later, SomeRose}
+use Rattle.es_process.specs.Standing.{State, HoldsOne, Holds, TracksWithin, StayWithin, HasStable, TellsContents, HoldContents, AreElsewhere, IsKeptElsewhere, AreDistinct, Stays, IsSame, AllStay, names_in, faults_at, count_of, Later, SomeRose}
 use Rattle.es_process.proofs.AmongLemmas.{contains-here, contains-cases, contains-none, contains-later, contains-among, put-other}
 use Rattle.es_process.proofs.SetLemmas.{get-same, get-cases, map-set}
+use Rattle.es_process.proofs.StableLemmas.{TrackFrom, has-grown}
 
 pub contains-at : {A : Type 0} (xs : List A) (i : ℕ) (x : A) → slice_get xs i ≡ Some x → Contains xs x
 contains-at [] i x at = absurd (cc at)
@@ -69,6 +73,11 @@ module _ {R : Type 0} where
       let here : is_among n (names_in apps) ≡ true = ap (λ m. is_among m (names_in apps)) is ∙ contains-among a.name (names_in apps) (contains-at (names_in apps) i a.name (name-at apps i a at)) in
       let clash : false ≡ true = sym none ∙ here in absurd (cc clash)
 
+  -- what an application that holds the state tells is stable
+  one-stable : (history stable : R → Option (List Recording)) (settled : R → Bool) (whole : (r : R) → settled r ≡ true → stable r ≡ history r) (snapshots : R → Option (List Snapshot)) (capacity : R → ℕ) (o : Options) (a : Application R) (s : State) (id : ℕ)
+      → HoldsOne history settled snapshots capacity o a s → id ≤ length (log (s.contents.histories a.name)) → HasStable (stable a.recorder) id
+  one-stable history stable settled whole snapshots capacity o a s id one less = subst (λ h. HasStable h id) (sym (whole a.recorder one.whole ∙ one.told)) less
+
   module _ (apps : List (Application R)) (distinct : AreDistinct (names_in apps)) (i : ℕ) (a b : Application R) (at : slice_get apps i ≡ Some a) (named : b.name ≡ a.name) where
     pub names-kept : names_in (slice_set apps i b) ≡ names_in apps
     names-kept = map-set (λ x. x.name) apps i b a at named
@@ -88,56 +97,82 @@ module _ {R : Type 0} where
       snapshots = elsewhere-kept base.snapshots c.snapshots d.snapshots alike.snapshots kept.snapshots;
     }
 
-    -- what is kept, where one changed
-    pub contents-set : (history : R → Option (List Recording)) (snapshots : R → Option (List Snapshot)) (base c d : Contents) → HoldContents history snapshots base apps c
-        → Tells (d.histories a.name) (d.snapshots a.name) (history b.recorder) (snapshots b.recorder) → AreAlikeBut a.name c d → HoldContents history snapshots base (slice_set apps i b) d
-    contents-set history snapshots base c d held tells alike = record {
+    -- what is kept, where one changed after all was settled: what it told then is stable still, and nobody tracks more
+    pub contents-set : (history stable : R → Option (List Recording)) (settled : R → Bool) (whole : (r : R) → settled r ≡ true → stable r ≡ history r) (snapshots : R → Option (List Snapshot)) (capacity : R → ℕ) (base : Contents) (o : Options) (readings : Option Readings) (s : State) (d : Contents)
+        → Holds history settled snapshots capacity base o apps readings s → Tells (d.histories a.name) (d.snapshots a.name) (history b.recorder) (snapshots b.recorder) → AreAlikeBut a.name s.contents d
+        → (settled a.recorder ≡ true → GrowsTold (history a.recorder) (stable b.recorder)) → TrackFrom base.histories s.contents.histories d.histories → HoldContents history stable snapshots base (slice_set apps i b) d
+    contents-set history stable settled whole snapshots capacity base o readings s d held tells alike grows track = record {
       each = λ j x there. get-cases (λ (y : Application R). TellsContents history snapshots y d) apps i j b a x at there
           (record { told = tells.recordings ∙ ap (λ n. Some (d.histories n)) (sym named); told_snapshots = tells.snapshots ∙ ap (λ n. Some (d.snapshots n)) (sym named) })
           (λ other was. let h = held.each j x was in record {
             told = h.told ∙ ap Some (sym (alike.histories x.name (apart j x other was)));
             told_snapshots = h.told_snapshots ∙ ap Some (sym (alike.snapshots x.name (apart j x other was)));
           });
-      elsewhere = all-elsewhere base c d alike held.elsewhere;
+      within = λ j x there. get-cases (λ (y : Application R). (follower : Name) → (y.name ≡ follower → ⊥) → TracksWithin base.histories y.name follower → HasStable (stable y.recorder) (tracked_in (d.histories follower) y.name)) apps i j b a x at there
+          (λ follower. subst (λ n. (n ≡ follower → ⊥) → TracksWithin base.histories n follower → HasStable (stable b.recorder) (tracked_in (d.histories follower) n)) (sym named) (still follower))
+          (λ other was follower differ before. one-stable history stable settled whole snapshots capacity o x s (tracked_in (d.histories follower) x.name) (held.each j x was) (track x.name follower differ before));
+      elsewhere = all-elsewhere base s.contents d alike held.elsewhere;
+    }
+      where
+        still : (follower : Name) → (a.name ≡ follower → ⊥) → TracksWithin base.histories a.name follower → HasStable (stable b.recorder) (tracked_in (d.histories follower) a.name)
+        still follower differ before =
+            let one = held.each i a at in
+            has-grown (Some (s.contents.histories a.name)) (stable b.recorder) (tracked_in (d.histories follower) a.name) (subst (λ h. GrowsTold h (stable b.recorder)) one.told (grows one.whole)) (track a.name follower differ before)
+
+    -- what is kept, where one changed in nothing that it tells, and as much is stable of it
+    pub contents-same : (history stable : R → Option (List Recording)) (snapshots : R → Option (List Snapshot)) (base c : Contents) → HoldContents history stable snapshots base apps c → history b.recorder ≡ history a.recorder → snapshots b.recorder ≡ snapshots a.recorder
+        → ((id : ℕ) → HasStable (stable a.recorder) id → HasStable (stable b.recorder) id) → HoldContents history stable snapshots base (slice_set apps i b) c
+    contents-same history stable snapshots base c held told kept has = record {
+      each = λ j x there. get-cases (λ (y : Application R). TellsContents history snapshots y c) apps i j b a x at there
+          (let h = held.each i a at in record { told = told ∙ h.told ∙ ap (λ n. Some (c.histories n)) (sym named); told_snapshots = kept ∙ h.told_snapshots ∙ ap (λ n. Some (c.snapshots n)) (sym named) })
+          (λ other was. held.each j x was);
+      within = λ j x there. get-cases (λ (y : Application R). (follower : Name) → (y.name ≡ follower → ⊥) → TracksWithin base.histories y.name follower → HasStable (stable y.recorder) (tracked_in (c.histories follower) y.name)) apps i j b a x at there
+          (λ follower. subst (λ n. (n ≡ follower → ⊥) → TracksWithin base.histories n follower → HasStable (stable b.recorder) (tracked_in (c.histories follower) n)) (sym named) (λ differ before. has (tracked_in (c.histories follower) a.name) (held.within i a at follower differ before)))
+          (λ other was. held.within j x was);
+      elsewhere = all-elsewhere base c c (alike-same a.name c) held.elsewhere;
     }
 
     -- the state, where one changed
-    pub holds-set : (history : R → Option (List Recording)) (snapshots : R → Option (List Snapshot)) (capacity : R → ℕ) (base : Contents) (o : Options) (readings now : Option Readings) (s t : State) → Holds history snapshots capacity base o apps readings s
-        → HoldsOne history snapshots capacity o b t → AreAlikeBut a.name s.contents t.contents → ((n : Name) → (n ≡ a.name → ⊥) → t.used n ≡ s.used n) → now ≡ Some t.readings → Holds history snapshots capacity base o (slice_set apps i b) now t
-    holds-set history snapshots capacity base o readings now s t held one alike counts read = record {
-      each = λ j c there. get-cases (λ (x : Application R). HoldsOne history snapshots capacity o x t) apps i j b a c at there one
+    pub holds-set : (history : R → Option (List Recording)) (settled : R → Bool) (snapshots : R → Option (List Snapshot)) (capacity : R → ℕ) (base : Contents) (o : Options) (readings now : Option Readings) (s t : State) → Holds history settled snapshots capacity base o apps readings s
+        → HoldsOne history settled snapshots capacity o b t → AreAlikeBut a.name s.contents t.contents → ((n : Name) → (n ≡ a.name → ⊥) → t.used n ≡ s.used n) → now ≡ Some t.readings → StayWithin base.histories t.contents.histories → Holds history settled snapshots capacity base o (slice_set apps i b) now t
+    holds-set history settled snapshots capacity base o readings now s t held one alike counts read within = record {
+      each = λ j c there. get-cases (λ (x : Application R). HoldsOne history settled snapshots capacity o x t) apps i j b a c at there one
           (λ other was. let h = held.each j c was in record {
             told = h.told ∙ ap Some (sym (alike.histories c.name (apart j c other was)));
             told_snapshots = h.told_snapshots ∙ ap Some (sym (alike.snapshots c.name (apart j c other was)));
+            whole = h.whole;
             room = h.room;
             turns = h.turns;
             counted = h.counted ∙ sym (counts c.name (apart j c other was));
           });
       clock = read;
+      within = within;
       elsewhere = all-elsewhere base s.contents t.contents alike held.elsewhere;
     }
 
   -- an application that is the same
-  pub same-one : (history : R → Option (List Recording)) (snapshots : R → Option (List Snapshot)) (capacity : R → ℕ) {faults : R → ℕ} (o : Options) (a b : Application R) (s : State) → IsSame history capacity snapshots faults a b
-      → HoldsOne history snapshots capacity o a s → HoldsOne history snapshots capacity o b s
-  same-one history snapshots capacity o a b s same held = record {
+  pub same-one : (history : R → Option (List Recording)) (settled : R → Bool) (snapshots : R → Option (List Snapshot)) (capacity : R → ℕ) {faults : R → ℕ} (o : Options) (a b : Application R) (s : State) → IsSame history settled capacity snapshots faults a b
+      → HoldsOne history settled snapshots capacity o a s → HoldsOne history settled snapshots capacity o b s
+  same-one history settled snapshots capacity o a b s same held = record {
     told = same.told ∙ held.told ∙ ap (λ n. Some (s.contents.histories n)) (sym same.stays.name);
     told_snapshots = same.kept ∙ held.told_snapshots ∙ ap (λ n. Some (s.contents.snapshots n)) (sym same.stays.name);
+    whole = same.settled_is ∙ held.whole;
     room = same.stays.room ∙ held.room;
     turns = same.stays.turns ∙ held.turns;
     counted = same.used ∙ held.counted ∙ ap s.used (sym same.stays.name);
   }
 
-  pub holds-same : (apps : List (Application R)) → AreDistinct (names_in apps) → (i : ℕ) (a b : Application R) → slice_get apps i ≡ Some a → (history : R → Option (List Recording)) (snapshots : R → Option (List Snapshot)) (capacity : R → ℕ) {faults : R → ℕ}
-      → IsSame history capacity snapshots faults a b → (base : Contents) (o : Options) (readings : Option Readings) (s : State) → Holds history snapshots capacity base o apps readings s → Holds history snapshots capacity base o (slice_set apps i b) readings s
-  holds-same apps distinct i a b at history snapshots capacity same base o readings s held =
-      holds-set apps distinct i a b at same.stays.name history snapshots capacity base o readings readings s s held (same-one history snapshots capacity o a b s same (held.each i a at)) (alike-same a.name s.contents) (λ n other. refl) held.clock
+  pub holds-same : (apps : List (Application R)) → AreDistinct (names_in apps) → (i : ℕ) (a b : Application R) → slice_get apps i ≡ Some a → (history : R → Option (List Recording)) (settled : R → Bool) (snapshots : R → Option (List Snapshot)) (capacity : R → ℕ) {faults : R → ℕ}
+      → IsSame history settled capacity snapshots faults a b → (base : Contents) (o : Options) (readings : Option Readings) (s : State) → Holds history settled snapshots capacity base o apps readings s → Holds history settled snapshots capacity base o (slice_set apps i b) readings s
+  holds-same apps distinct i a b at history settled snapshots capacity same base o readings s held =
+      holds-set apps distinct i a b at same.stays.name history settled snapshots capacity base o readings readings s s held (same-one history settled snapshots capacity o a b s same (held.each i a at)) (alike-same a.name s.contents) (λ n other. refl) held.clock held.within
 
   -- the state tells what is kept
-  pub held-contents : (history : R → Option (List Recording)) (snapshots : R → Option (List Snapshot)) (capacity : R → ℕ) (base : Contents) (o : Options) (apps : List (Application R)) (readings : Option Readings) (s : State)
-      → Holds history snapshots capacity base o apps readings s → HoldContents history snapshots base apps s.contents
-  held-contents history snapshots capacity base o apps readings s held = record {
+  pub held-contents : (history stable : R → Option (List Recording)) (settled : R → Bool) (whole : (r : R) → settled r ≡ true → stable r ≡ history r) (snapshots : R → Option (List Snapshot)) (capacity : R → ℕ) (base : Contents) (o : Options) (apps : List (Application R)) (readings : Option Readings) (s : State)
+      → Holds history settled snapshots capacity base o apps readings s → HoldContents history stable snapshots base apps s.contents
+  held-contents history stable settled whole snapshots capacity base o apps readings s held = record {
     each = λ i a at. let one = held.each i a at in record { told = one.told; told_snapshots = one.told_snapshots };
+    within = λ i a at follower differ before. one-stable history stable settled whole snapshots capacity o a s (tracked_in (s.contents.histories follower) a.name) (held.each i a at) (held.within a.name follower differ before);
     elsewhere = held.elsewhere;
   }
 

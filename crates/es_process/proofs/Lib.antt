@@ -16,6 +16,7 @@ pub mod RunSessionLemmas
 pub mod SessionLemmas
 pub mod SetLemmas
 pub mod SingleThreadLemmas
+pub mod StableLemmas
 pub mod StandingLemmas
 pub mod TurnsLemmas
 pub mod TracedLemmas

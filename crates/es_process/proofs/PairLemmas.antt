@@ -132,10 +132,10 @@ module _ (t : Terms) (s : State) (p : Pair) (prompted : List Name) (rest : List 
 
   -- a fault of processing the next notification; what the applications hold follows from what the follower has now
   module _ (u : Option (List ℕ)) (e : StoredEvent) (L : Contents → Type 0) (new : Option (List Recording)) (now : Option (List Snapshot)) (there : next_entry s p ≡ Some e) (still : Tells (history_in s p) (snapshots_in s p) new now → L s.contents)
-      (more : (r : Recording) (ss : List Snapshot) → Tells (history_in s p ++ r ∷ []) (put_each (snapshots_in s p) ss) new now → L (added s.contents p.follower_name r ss)) where
+      (more : (r : Recording) (ss all : List Snapshot) → follows_in t s p ≡ adds r all → Tells (history_in s p ++ r ∷ []) (put_each (snapshots_in s p) ss) new now → L (added s.contents p.follower_name r ss)) where
     cut_taken : (f : Followed) → follows_in t s p ≡ f → MayTake f (history_in s p) (snapshots_in s p) new now → CutShort t (trying s p prompted rest) L u u []
     cut_taken (adds r ss) is (inl same) = cut_here t s prompted ((p.leader_name, p.follower_name) ∷ rest) L u (still same)
-    cut_taken (adds r ss) is (inr one) = cut_added u e r ss one.front one.rest L there is one.parts (more r one.front one.tells)
+    cut_taken (adds r ss) is (inr one) = cut_added u e r ss one.front one.rest L there is one.parts (more r one.front ss is one.tells)
     cut_taken (stops end) is same = cut_here t s prompted ((p.leader_name, p.follower_name) ∷ rest) L u (still same)
 
     pub one_faulted : (f : RunFault) (count : ℕ) (readings : Option Readings)
@@ -158,14 +158,14 @@ module _ (t : Terms) (s : State) (p : Pair) (prompted : List Name) (rest : List 
 
   pub one_recorded : (H : State → Type 0) (u : Option (List ℕ)) (e : StoredEvent) (first last : ℕ) (new : Option (List Recording)) (now : Option (List Snapshot)) (count : ℕ) (readings : Option Readings) → next_entry s p ≡ Some e
       → Processes p.leader_name (next_id s p) (follows_in t s p) (history_in s p) (snapshots_in s p) (s.used p.follower_name) s.readings (Ok (Recorded first last)) new now count readings
-      → ((r : Recording) (ss : List Snapshot) → Tells (history_in s p ++ r ∷ []) (put_each (snapshots_in s p) ss) new now → count ≡ s.used p.follower_name + 1 → readings ≡ Some (later_readings s.readings) → H (recorded_in s p r ss))
+      → ((r : Recording) (ss : List Snapshot) → follows_in t s p ≡ adds r ss → Tells (history_in s p ++ r ∷ []) (put_each (snapshots_in s p) ss) new now → count ≡ s.used p.follower_name + 1 → readings ≡ Some (later_readings s.readings) → H (recorded_in s p r ss))
       → OneRecorded H u first last
   one_recorded H u e first last new now count readings there so held =
       let is = so.1.is in record {
         recording = is.recording;
         from = is.from;
         to = is.to;
-        came = one_added H u e is.recording is.snapshots there is.follows (held is.recording is.snapshots is.added so.1.counted so.1.read);
+        came = one_added H u e is.recording is.snapshots there is.follows (held is.recording is.snapshots is.follows is.added so.1.counted so.1.read);
       }
 
   -- the follower has no turn left

@@ -14,19 +14,21 @@ use Rattle.es_model.specs.declared.domain_event.DomainEvent.{DomainEvent}
 use Rattle.es_model.specs.declared.event.Notification.{Notification}
 use Rattle.es_model.specs.declared.event.Cause.TheVariants.{Notification as notification}
 use Rattle.es_model.specs.declared.event.Recording.{Recording}
+use Rattle.es_model.specs.declared.event.StoredEvent.{StoredEvent}
 use Rattle.es_model.specs.declared.snapshot.Snapshot.{Snapshot}
 use Rattle.es_mapper.specs.Mapped.{event_of}
 use Rattle.es_io.specs.Readings.{Readings, first_reading, later_readings}
 use Rattle.es_decl.specs.Pairs.{pairs_of}
 use Rattle.es_recorder.specs.Held.{put}
 use Rattle.es_recorder.specs.Selections.{select_notifications}
+use Rattle.es_recorder.specs.Stable.{GrowsTold}
 use Rattle.es_process.specs.declared.application.Application.{Application}
 use Rattle.es_process.specs.declared.application.Processed.{Processed}
 use Rattle.es_process.specs.declared.application.Processed.TheVariants.{Recorded}
 use Rattle.es_process.specs.declared.pairs.Pair.{Pair}
 use Rattle.es_process.specs.declared.faults.RunFault.{RunFault}
 use Rattle.es_process.specs.declared.faults.RunFault.TheVariants as fault
-use Rattle.es_process.specs.Answer.{Options, options, followed, put_each}
+use Rattle.es_process.specs.Answer.{Options, adds, options, followed, put_each}
 use Rattle.es_process.specs.Contents.{Contents, added}
 use Rattle.es_process.specs.Decision.{logs_of, unreadable}
 use Rattle.es_process.specs.inner.Following.{FindsNext, trying, CameTo, prompted_after, all_left}
@@ -35,10 +37,13 @@ use Rattle.es_process.specs.Leaves.{Tells, Processes, Converts, IsEntry}
 use Rattle.es_process.specs.Standing.{State, Holds, HoldContents, Faulted, AreDistinct, IsNextAfter, Stays, IsSame, AllStay, SomeRose, names_in}
 use Rattle.es_process.specs.SingleThread.{prompt}
 use Rattle.es_process.specs.SystemRules.{rules_of, decide_event, decide_entry}
-use Rattle.es_process.specs.Terms.{terms}
+use Rattle.es_process.specs.Terms.{Terms, terms}
 use Rattle.es_process.proofs.AmongLemmas.{contains-cases, contains-none, is-same, put-here, put-other}
+use Rattle.es_process.proofs.DecidedLemmas.{followed-adds}
+use Rattle.es_process.proofs.FollowsLemmas.{Grows-put}
 use Rattle.es_process.proofs.HoldsLemmas.{contains-at, name-at, app-at, AreAlikeBut, alike-same, alike-added, holds-set, holds-same, held-contents, contents-set, all-then, all-set, rose-set, rose-then}
-use Rattle.es_process.proofs.PairLemmas.{finds_next, follows_in, history_in, snapshots_in, next_id, recorded_in, turns_over, entry_unread, OneRecorded, one_recorded, prompts}
+use Rattle.es_process.proofs.PairLemmas.{finds_next, follows_in, history_in, snapshots_in, next_entry, next_id, recorded_in, turns_over, entry_unread, OneRecorded, one_recorded, prompts}
+use Rattle.es_process.proofs.StableLemmas.{TrackFrom, notification-there, track-added, within-grown}
 use Rattle.es_process.proofs.StandingLemmas.{cut_here, came_faulted}
 
 -- a declared application is found by its name
@@ -110,52 +115,65 @@ module _ {R : Type 0} where
 
   -- the follower of a pair, before and after it processed the next notification
   module _ (apps : List (Application R)) (distinct : AreDistinct (names_in apps)) (p : Pair) (a b : Application R) (placed : slice_get (names_in apps) p.follower ≡ Some p.follower_name) (at : slice_get apps p.follower ≡ Some a) (named : b.name ≡ a.name)
-      (history : R → Option (List Recording)) (snapshots : R → Option (List Snapshot)) (base : Contents) where
+      (history stable : R → Option (List Recording)) (settled : R → Bool) (whole : (r : R) → settled r ≡ true → stable r ≡ history r) (snapshots : R → Option (List Snapshot)) (capacity : R → ℕ) (base : Contents) (o : Options) (readings : Option Readings) (s : State) (held : Holds history settled snapshots capacity base o apps readings s) where
     is_follower : a.name ≡ p.follower_name
     is_follower = place-name apps p.follower p.follower_name a placed at
 
-    pub follower-still : (c : Contents) → HoldContents history snapshots base apps c → Tells (c.histories p.follower_name) (c.snapshots p.follower_name) (history b.recorder) (snapshots b.recorder) → HoldContents history snapshots base (slice_set apps p.follower b) c
-    follower-still c held tells =
-        contents-set apps distinct p.follower a b at named history snapshots base c c held (subst (λ n. Tells (c.histories n) (c.snapshots n) (history b.recorder) (snapshots b.recorder)) (sym is_follower) tells) (alike-same a.name c)
+    pub follower-still : (settled a.recorder ≡ true → GrowsTold (history a.recorder) (stable b.recorder)) → Tells (history_in s p) (snapshots_in s p) (history b.recorder) (snapshots b.recorder) → HoldContents history stable snapshots base (slice_set apps p.follower b) s.contents
+    follower-still grows tells =
+        contents-set apps distinct p.follower a b at named history stable settled whole snapshots capacity base o readings s s.contents held (subst (λ n. Tells (s.contents.histories n) (s.contents.snapshots n) (history b.recorder) (snapshots b.recorder)) (sym is_follower) tells) (alike-same a.name s.contents)
+        grows held.within
 
     -- what it tells, by the contents with what was added
-    added-told : (c : Contents) (r : Recording) (ss : List Snapshot) → Tells (c.histories p.follower_name ++ r ∷ []) (put_each (c.snapshots p.follower_name) ss) (history b.recorder) (snapshots b.recorder)
-        → Tells ((added c p.follower_name r ss).histories p.follower_name) ((added c p.follower_name r ss).snapshots p.follower_name) (history b.recorder) (snapshots b.recorder)
-    added-told c r ss tells = record {
-      recordings = tells.recordings ∙ ap Some (sym (put-here c.histories p.follower_name (c.histories p.follower_name ++ r ∷ [])));
-      snapshots = tells.snapshots ∙ ap Some (sym (put-here c.snapshots p.follower_name (put_each (c.snapshots p.follower_name) ss)));
+    added-told : (r : Recording) (ss : List Snapshot) → Tells (history_in s p ++ r ∷ []) (put_each (snapshots_in s p) ss) (history b.recorder) (snapshots b.recorder)
+        → Tells ((added s.contents p.follower_name r ss).histories p.follower_name) ((added s.contents p.follower_name r ss).snapshots p.follower_name) (history b.recorder) (snapshots b.recorder)
+    added-told r ss tells = record {
+      recordings = tells.recordings ∙ ap Some (sym (put-here s.contents.histories p.follower_name (history_in s p ++ r ∷ [])));
+      snapshots = tells.snapshots ∙ ap Some (sym (put-here s.contents.snapshots p.follower_name (put_each (snapshots_in s p) ss)));
     }
 
-    alike : (c : Contents) (r : Recording) (ss : List Snapshot) → AreAlikeBut a.name c (added c p.follower_name r ss)
-    alike c r ss = subst (λ n. AreAlikeBut n c (added c p.follower_name r ss)) (sym is_follower) (alike-added p.follower_name c r ss)
+    alike : (r : Recording) (ss : List Snapshot) → AreAlikeBut a.name s.contents (added s.contents p.follower_name r ss)
+    alike r ss = subst (λ n. AreAlikeBut n s.contents (added s.contents p.follower_name r ss)) (sym is_follower) (alike-added p.follower_name s.contents r ss)
 
-    pub follower-more : (c : Contents) (r : Recording) (ss : List Snapshot) → HoldContents history snapshots base apps c → Tells (c.histories p.follower_name ++ r ∷ []) (put_each (c.snapshots p.follower_name) ss) (history b.recorder) (snapshots b.recorder)
-        → HoldContents history snapshots base (slice_set apps p.follower b) (added c p.follower_name r ss)
-    follower-more c r ss held tells =
-        contents-set apps distinct p.follower a b at named history snapshots base c (added c p.follower_name r ss) held
-        (subst (λ n. Tells ((added c p.follower_name r ss).histories n) ((added c p.follower_name r ss).snapshots n) (history b.recorder) (snapshots b.recorder)) (sym is_follower) (added-told c r ss tells))
-        (alike c r ss)
+    -- the next notification is there, so whoever records it tracks no more than there is
+    module _ (t : Terms) (e : StoredEvent) (there : next_entry s p ≡ Some e) (r : Recording) (all : List Snapshot) (follows : follows_in t s p ≡ adds r all) where
+      caused : r.cause ≡ notification p.leader_name (next_id s p)
+      caused = sym (ap (λ (x : Recording). x.cause) (followed-adds t.rules p.follower_name (history_in s p) (logs_of s.contents.histories) (first_reading s.readings) t.options (s.used p.follower_name) p.leader_name (next_id s p) r all follows).is)
 
-    pub follower-recorded : (capacity : R → ℕ) (o : Options) (readings now : Option Readings) (s : State) (r : Recording) (ss : List Snapshot) → Holds history snapshots capacity base o apps readings s → capacity b.recorder ≡ capacity a.recorder → b.turns ≡ a.turns
-        → Tells (history_in s p ++ r ∷ []) (put_each (snapshots_in s p) ss) (history b.recorder) (snapshots b.recorder) → b.used ≡ s.used p.follower_name + 1 → now ≡ Some (later_readings s.readings)
-        → Holds history snapshots capacity base o (slice_set apps p.follower b) now (recorded_in s p r ss)
-    follower-recorded capacity o readings now s r ss held room turns tells counted read =
-        let one = held.each p.follower a at in
-        let mine : b.name ≡ p.follower_name = named ∙ is_follower in
-        let there = added-told s.contents r ss tells in
-        holds-set apps distinct p.follower a b at named history snapshots capacity base o readings now s (recorded_in s p r ss) held
-        (record {
-          told = there.recordings ∙ ap (λ n. Some ((added s.contents p.follower_name r ss).histories n)) (sym mine);
-          told_snapshots = there.snapshots ∙ ap (λ n. Some ((added s.contents p.follower_name r ss).snapshots n)) (sym mine);
-          room = room ∙ one.room;
-          turns = turns ∙ one.turns;
-          counted = counted ∙ sym (ap (put s.used p.follower_name (s.used p.follower_name + 1)) mine ∙ put-here s.used p.follower_name (s.used p.follower_name + 1));
-        })
-        (alike s.contents r ss) (λ n differ. put-other s.used p.follower_name (s.used p.follower_name + 1) n (λ is. differ (is ∙ sym is_follower))) read
+      track-next : TrackFrom base.histories s.contents.histories (put s.contents.histories p.follower_name (history_in s p ++ r ∷ []))
+      track-next =
+          let within : tracked_in (history_in s p) p.leader_name < length (log (s.contents.histories p.leader_name)) = slice_get_within (log (s.contents.histories p.leader_name)) (tracked_in (history_in s p) p.leader_name) e there in
+          track-added base.histories s.contents.histories p.follower_name r held.within (notification-there s.contents.histories r.cause p.leader_name (next_id s p) caused (omega (arith, within)))
+
+      pub follower-more : (ss : List Snapshot) → (settled a.recorder ≡ true → GrowsTold (history a.recorder) (stable b.recorder)) → Tells (history_in s p ++ r ∷ []) (put_each (snapshots_in s p) ss) (history b.recorder) (snapshots b.recorder)
+          → HoldContents history stable snapshots base (slice_set apps p.follower b) (added s.contents p.follower_name r ss)
+      follower-more ss grows tells =
+          contents-set apps distinct p.follower a b at named history stable settled whole snapshots capacity base o readings s (added s.contents p.follower_name r ss) held
+          (subst (λ n. Tells ((added s.contents p.follower_name r ss).histories n) ((added s.contents p.follower_name r ss).snapshots n) (history b.recorder) (snapshots b.recorder)) (sym is_follower) (added-told r ss tells))
+          (alike r ss) grows track-next
+
+      pub follower-recorded : (now : Option Readings) (ss : List Snapshot) → settled b.recorder ≡ true → capacity b.recorder ≡ capacity a.recorder → b.turns ≡ a.turns
+          → Tells (history_in s p ++ r ∷ []) (put_each (snapshots_in s p) ss) (history b.recorder) (snapshots b.recorder) → b.used ≡ s.used p.follower_name + 1 → now ≡ Some (later_readings s.readings)
+          → Holds history settled snapshots capacity base o (slice_set apps p.follower b) now (recorded_in s p r ss)
+      follower-recorded now ss all_settled room turns tells counted read =
+          let one = held.each p.follower a at in
+          let mine : b.name ≡ p.follower_name = named ∙ is_follower in
+          let told = added-told r ss tells in
+          holds-set apps distinct p.follower a b at named history settled snapshots capacity base o readings now s (recorded_in s p r ss) held
+          (record {
+            told = told.recordings ∙ ap (λ n. Some ((added s.contents p.follower_name r ss).histories n)) (sym mine);
+            told_snapshots = told.snapshots ∙ ap (λ n. Some ((added s.contents p.follower_name r ss).snapshots n)) (sym mine);
+            whole = all_settled;
+            room = room ∙ one.room;
+            turns = turns ∙ one.turns;
+            counted = counted ∙ sym (ap (put s.used p.follower_name (s.used p.follower_name + 1)) mine ∙ put-here s.used p.follower_name (s.used p.follower_name + 1));
+          })
+          (alike r ss) (λ n differ. put-other s.used p.follower_name (s.used p.follower_name + 1) n (λ is. differ (is ∙ sym is_follower))) read
+          (within-grown base.histories s.contents.histories (put s.contents.histories p.follower_name (history_in s p ++ r ∷ [])) track-next (Grows-put s.contents.histories p.follower_name r))
 
 -- two applications that are the same as they were, one after another
-module _ {R : Type 0} (history : R → Option (List Recording)) (capacity : R → ℕ) (snapshots : R → Option (List Snapshot)) (faults : R → ℕ) (apps : List (Application R)) (distinct : AreDistinct (names_in apps)) (i j : ℕ) (n m : Name)
-    (x y b d : Application R) (placed : slice_get (names_in apps) i ≡ Some n) (placed_too : slice_get (names_in apps) j ≡ Some m) (first : IsSame history capacity snapshots faults (get_or apps i x) b) where
+module _ {R : Type 0} (history : R → Option (List Recording)) (settled : R → Bool) (capacity : R → ℕ) (snapshots : R → Option (List Snapshot)) (faults : R → ℕ) (apps : List (Application R)) (distinct : AreDistinct (names_in apps)) (i j : ℕ) (n m : Name)
+    (x y b d : Application R) (placed : slice_get (names_in apps) i ≡ Some n) (placed_too : slice_get (names_in apps) j ≡ Some m) (first : IsSame history settled capacity snapshots faults (get_or apps i x) b) where
   abbrev first_app : Application R
   first_app = get_or apps i x
 
@@ -183,19 +201,19 @@ module _ {R : Type 0} (history : R → Option (List Recording)) (capacity : R �
   still_distinct : AreDistinct (names_in (slice_set apps i b))
   still_distinct = subst AreDistinct (sym first-names) distinct
 
-  pub first-holds : (base : Contents) (o : Options) (readings : Option Readings) (s : State) → Holds history snapshots capacity base o apps readings s → Holds history snapshots capacity base o (slice_set apps i b) readings s
-  first-holds = holds-same apps distinct i first_app b at_first history snapshots capacity first
+  pub first-holds : (base : Contents) (o : Options) (readings : Option Readings) (s : State) → Holds history settled snapshots capacity base o apps readings s → Holds history settled snapshots capacity base o (slice_set apps i b) readings s
+  first-holds = holds-same apps distinct i first_app b at_first history settled snapshots capacity first
 
   -- what the two hold
-  pub first-told : (base : Contents) (o : Options) (readings : Option Readings) (s : State) → Holds history snapshots capacity base o apps readings s → history first_app.recorder ≡ Some (s.contents.histories n)
+  pub first-told : (base : Contents) (o : Options) (readings : Option Readings) (s : State) → Holds history settled snapshots capacity base o apps readings s → history first_app.recorder ≡ Some (s.contents.histories n)
   first-told base o readings s held = (held.each i first_app at_first).told ∙ ap (λ k. Some (s.contents.histories k)) (place-name apps i n first_app placed at_first)
 
-  pub second-told : (base : Contents) (o : Options) (readings : Option Readings) (s : State) → Holds history snapshots capacity base o apps readings s → history second_app.recorder ≡ Some (s.contents.histories m)
+  pub second-told : (base : Contents) (o : Options) (readings : Option Readings) (s : State) → Holds history settled snapshots capacity base o apps readings s → history second_app.recorder ≡ Some (s.contents.histories m)
   second-told base o readings s held = ((first-holds base o readings s held).each j second_app at_second).told ∙ ap (λ k. Some (s.contents.histories k)) (place-name (slice_set apps i b) j m second_app still_placed at_second)
 
-  module _ (second : IsSame history capacity snapshots faults second_app d) where
-    pub both-hold : (base : Contents) (o : Options) (readings : Option Readings) (s : State) → Holds history snapshots capacity base o apps readings s → Holds history snapshots capacity base o (slice_set (slice_set apps i b) j d) readings s
-    both-hold base o readings s held = holds-same (slice_set apps i b) still_distinct j second_app d at_second history snapshots capacity second base o readings s (first-holds base o readings s held)
+  module _ (second : IsSame history settled capacity snapshots faults second_app d) where
+    pub both-hold : (base : Contents) (o : Options) (readings : Option Readings) (s : State) → Holds history settled snapshots capacity base o apps readings s → Holds history settled snapshots capacity base o (slice_set (slice_set apps i b) j d) readings s
+    both-hold base o readings s held = holds-same (slice_set apps i b) still_distinct j second_app d at_second history settled snapshots capacity second base o readings s (first-holds base o readings s held)
 
     pub both-stay : AllStay faults apps (slice_set (slice_set apps i b) j d)
     both-stay = all-then first-stay (all-set (slice_set apps i b) still_distinct j second_app d at_second second.stays)
@@ -220,7 +238,7 @@ module _ {R : Type 0} (sys : System) (apps : List (Application R)) (p : Pair) (p
   pub leader-declared : IsTrue (is_some (app_named sys.apps p.leader_name))
   leader-declared = place-named sys (names_in apps) p.leader p.leader_name pair.apps pair.placed.leader
 
-  module _ (history : R → Option (List Recording)) (snapshots : R → Option (List Snapshot)) (capacity : R → ℕ) (base : Contents) (o : Options) (readings : Option Readings) (s : State) (held : Holds history snapshots capacity base o apps readings s)
+  module _ (history stable : R → Option (List Recording)) (settled : R → Bool) (whole : (r : R) → settled r ≡ true → stable r ≡ history r) (snapshots : R → Option (List Snapshot)) (capacity : R → ℕ) (base : Contents) (o : Options) (readings : Option Readings) (s : State) (held : Holds history settled snapshots capacity base o apps readings s)
       (n : Notification) (next : FindsNext s p (Some n)) where
     follower-named : follower_app.name ≡ p.follower_name
     follower-named = place-name apps p.follower p.follower_name follower_app pair.placed.follower at_follower
@@ -246,39 +264,40 @@ module _ {R : Type 0} (sys : System) (apps : List (Application R)) (p : Pair) (p
         process_told sys o s p (capacity follower_app.recorder) follower_app.turns follower_app.used n.id follower_app.name result new now count later one.room one.turns (one.counted ∙ ap s.used follower-named) follower-named next.1 so
 
     -- it was recorded, and the follower is still to be tried; who is prompted then may want memory
-    module _ {faults : R → ℕ} (b : Application R) (same : Stays capacity faults follower_app b) (now : Option Readings) (first last : ℕ)
+    module _ {faults : R → ℕ} (b : Application R) (same : Stays capacity faults follower_app b) (all_settled : settled follower_app.recorder ≡ true → settled b.recorder ≡ true) (now : Option Readings) (first last : ℕ)
         (so : Processes p.leader_name n.id (followed (rules_of sys) (options (capacity follower_app.recorder) follower_app.turns) follower_app.name (history_in s p) follower_app.used (logs_of s.contents.histories) p.leader_name n.id (first_reading s.readings)) (history_in s p) (snapshots_in s p) follower_app.used s.readings (Ok (Recorded first last)) (history b.recorder) (snapshots b.recorder) b.used now)
         (prompted : List Name) (rest : List (Name × Name)) (u : Option (List ℕ)) where
       abbrev pub IsRecorded : Type 0
-      IsRecorded = OneRecorded (terms (rules_of sys) o) s p prompted rest (Holds history snapshots capacity base o (slice_set apps p.follower b) now) u first last
+      IsRecorded = OneRecorded (terms (rules_of sys) o) s p prompted rest (Holds history settled snapshots capacity base o (slice_set apps p.follower b) now) u first last
 
       is_recorded : IsRecorded
       is_recorded =
-          one_recorded (terms (rules_of sys) o) s p prompted rest (Holds history snapshots capacity base o (slice_set apps p.follower b) now) u n.event first last (history b.recorder) (snapshots b.recorder) b.used now next.0
+          one_recorded (terms (rules_of sys) o) s p prompted rest (Holds history settled snapshots capacity base o (slice_set apps p.follower b) now) u n.event first last (history b.recorder) (snapshots b.recorder) b.used now next.0
           (processed-told (Ok (Recorded first last)) (history b.recorder) (snapshots b.recorder) b.used now so)
-          (λ r ss added counted read. follower-recorded apps pair.apps.distinct p follower_app b pair.placed.follower at_follower same.name history snapshots base capacity o readings now s r ss held same.room same.turns added counted read)
+          (λ r ss follows added counted read. follower-recorded apps pair.apps.distinct p follower_app b pair.placed.follower at_follower same.name history stable settled whole snapshots capacity base o readings s held (terms (rules_of sys) o) n.event next.0 r ss follows now ss
+          (all_settled (held.each p.follower follower_app at_follower).whole) same.room same.turns added counted read)
 
       pub recorded-came : (queue : List ℕ) → ArePrompted (names_in apps) queue prompted
-          → CameTo (terms (rules_of sys) o) (trying s p prompted rest) (Holds history snapshots capacity base o (slice_set apps p.follower b) now) (names_in apps) (prompted_after p queue first last) u (λ after later. trying after p later rest)
+          → CameTo (terms (rules_of sys) o) (trying s p prompted rest) (Holds history settled snapshots capacity base o (slice_set apps p.follower b) now) (names_in apps) (prompted_after p queue first last) u (λ after later. trying after p later rest)
       recorded-came queue are = (
         prompt (pairs_of sys.pipes) prompted p.follower_name is_recorded.recording.events,
         prompts (names_in apps) pair.apps.distinct (pairs_of sys.pipes) p pair.placed.follower pair.leads_on queue prompted are first last (length (log (history_in s p))) is_recorded.recording.events is_recorded.from is_recorded.to,
         is_recorded.came,
       )
 
-      pub recorded-starved : Faulted (terms (rules_of sys) o) (trying s p prompted rest) fault.NoMemory (HoldContents history snapshots base (slice_set apps p.follower b)) u u
+      pub recorded-starved : Faulted (terms (rules_of sys) o) (trying s p prompted rest) fault.NoMemory (HoldContents history stable snapshots base (slice_set apps p.follower b)) u u
       recorded-starved =
           let later : List Name = prompt (pairs_of sys.pipes) prompted p.follower_name is_recorded.recording.events in
-          came_faulted (terms (rules_of sys) o) (trying s p prompted rest) (Holds history snapshots capacity base o (slice_set apps p.follower b) now) u u (λ after. trying after p later rest) is_recorded.came fault.NoMemory (HoldContents history snapshots base (slice_set apps p.follower b)) u
-          (cut_here (terms (rules_of sys) o) is_recorded.came.state later ((p.leader_name, p.follower_name) ∷ rest) (HoldContents history snapshots base (slice_set apps p.follower b)) u
-          (held-contents history snapshots capacity base o (slice_set apps p.follower b) now is_recorded.came.state is_recorded.came.held))
+          came_faulted (terms (rules_of sys) o) (trying s p prompted rest) (Holds history settled snapshots capacity base o (slice_set apps p.follower b) now) u u (λ after. trying after p later rest) is_recorded.came fault.NoMemory (HoldContents history stable snapshots base (slice_set apps p.follower b)) u
+          (cut_here (terms (rules_of sys) o) is_recorded.came.state later ((p.leader_name, p.follower_name) ∷ rest) (HoldContents history stable snapshots base (slice_set apps p.follower b)) u
+          (held-contents history stable settled whole snapshots capacity base o (slice_set apps p.follower b) now is_recorded.came.state is_recorded.came.held))
 
     module _ (prompted : List Name) (rest : List (Name × Name)) (u : Option (List ℕ)) where
       abbrev kept : Contents → Type 0
-      kept = HoldContents history snapshots base apps
+      kept = HoldContents history stable snapshots base apps
 
       still_kept : kept s.contents
-      still_kept = held-contents history snapshots capacity base o apps readings s held
+      still_kept = held-contents history stable settled whole snapshots capacity base o apps readings s held
 
       cut_still : Faulted (terms (rules_of sys) o) (trying s p prompted rest) fault.NoMemory kept u u
       cut_still = cut_here (terms (rules_of sys) o) s prompted ((p.leader_name, p.follower_name) ∷ rest) kept u still_kept

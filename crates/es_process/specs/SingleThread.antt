@@ -1,4 +1,10 @@
--- The run on one thread, as a machine of turns, and as its steps and its end.
+-- The run on one thread, in five sentences.
+-- Where a follower tracks more than its leader has at the opening, the run makes no step, and this is its end.
+-- Else it begins with a drain of all leaders: the first prompted leader is taken, each of its followers, in the order of pairs, records all its notifications that it doesn't track, and a follower that recorded an event and leads is prompted behind the others, unless it is prompted; so until nobody is.
+-- Then the lines are answered one by one: an accepted command adds its recording, puts the snapshots that are due and writes its reply, and a drain of its application follows; any other line puts its snapshot, if it takes one, and writes its reply.
+-- The run ends well where no line is left or one has asked to stop, and it ends as over where a line doesn't end within the limit of the lines.
+-- The first that can't go on ends it: a follower that has used its turns, a notification or an aggregate without meaning, a policy that refuses, events that don't fit.
+-- What computes it is a machine of turns: a pair that is to be tried, else a prompted leader, else the next line. Its steps and its end are the run.
 use Rattle.std.specs.Prelude.{◌≡◌, ℕ, zero, suc, ◌+◌, ◌-◌, Bool, true, false, not, ◌&&◌, List, [], ◌∷◌, ◌++◌, length, map, filter, slice_get, if◌then◌else◌, Option, Some, None}
 use Rattle.std.specs.Option.{option_map}
 use Rattle.std.specs.List.{list_any}

@@ -1,15 +1,17 @@
 -- Where the objects of a run stand, and what a part of the run leaves.
-use Rattle.std.specs.Prelude.{◌≡◌, ◌≤◌, ◌<◌, ◌^◌, ◌+◌, ◌⊎◌, ℕ, false, List, [], ◌∷◌, ◌++◌, map, slice_get, Option, Some, None}
+use Rattle.std.specs.Prelude.{◌≡◌, ◌≤◌, ◌<◌, ◌^◌, ◌+◌, ◌⊎◌, ℕ, Bool, true, false, List, [], ◌∷◌, ◌++◌, length, map, slice_get, Option, Some, None, Result, OnOk}
 use Rattle.std.specs.Io.KnownBytes.{Appends}
 use Rattle.es_model.specs.declared.event.Notification.{Notification}
 use Rattle.es_model.specs.declared.event.Recording.{Recording}
 use Rattle.es_model.specs.declared.event.StoredEvent.{StoredEvent}
 use Rattle.es_model.specs.declared.snapshot.Snapshot.{Snapshot}
 use Rattle.es_model.specs.Causes.{Rose}
-use Rattle.es_model.specs.History.{Histories}
+use Rattle.es_model.specs.History.{Histories, log}
+use Rattle.es_model.specs.Tracking.{tracked_in}
 use Rattle.es_model.specs.Lines.{Line}
 use Rattle.es_model.specs.Values.{Name}
 use Rattle.es_io.specs.Readings.{Readings}
+use Rattle.es_recorder.specs.Stable.{GrowsTold}
 use Rattle.es_lines.specs.declared.ends.End.{End}
 use Rattle.es_process.specs.declared.application.Application.{Application}
 use Rattle.es_process.specs.declared.faults.RunFault.{RunFault}
@@ -26,10 +28,11 @@ pub record State : Type 0 where
   pub readings : Readings
   pub used : Name → ℕ
 
--- an application tells what the state has of it, and has the limits of the run
-pub record HoldsOne {R : Type 0} (history : R → Option (List Recording)) (snapshots : R → Option (List Snapshot)) (capacity : R → ℕ) (options : Options) (a : Application R) (s : State) : Type 0 where
+-- an application tells what the state has of it, all of which is settled, and has the limits of the run
+pub record HoldsOne {R : Type 0} (history : R → Option (List Recording)) (settled : R → Bool) (snapshots : R → Option (List Snapshot)) (capacity : R → ℕ) (options : Options) (a : Application R) (s : State) : Type 0 where
   pub told : history a.recorder ≡ Some (s.contents.histories a.name)
   pub told_snapshots : snapshots a.recorder ≡ Some (s.contents.snapshots a.name)
+  pub whole : settled a.recorder ≡ true
   pub room : capacity a.recorder ≡ options.capacity
   pub turns : a.turns ≡ options.turns
   pub counted : a.used ≡ s.used a.name
@@ -46,10 +49,24 @@ pub record IsKeptElsewhere {R : Type 0} (base : Contents) (apps : List (Applicat
   pub histories : AreElsewhere base.histories apps c.histories
   pub snapshots : AreElsewhere base.snapshots apps c.snapshots
 
--- the applications and the clock tell this state, and elsewhere all is as at the opening
-pub record Holds {R : Type 0} (history : R → Option (List Recording)) (snapshots : R → Option (List Snapshot)) (capacity : R → ℕ) (base : Contents) (options : Options) (apps : List (Application R)) (readings : Option Readings) (s : State) : Type 0 where
-  pub each : (i : ℕ) (a : Application R) → slice_get apps i ≡ Some a → HoldsOne history snapshots capacity options a s
+-- a follower tracks no more of a leader than this leader's log has
+abbrev pub TracksWithin : Histories → Name → Name → Type 0
+TracksWithin histories leader follower = tracked_in (histories follower) leader ≤ length (log (histories leader))
+
+-- whoever did so at the opening does so still
+abbrev pub StayWithin : Histories → Histories → Type 0
+StayWithin openings histories = (leader follower : Name) → (leader ≡ follower → ⊥) → TracksWithin openings leader follower → TracksWithin histories leader follower
+
+-- what is stable has so many notifications
+abbrev pub HasStable : Option (List Recording) → ℕ → Type 0
+HasStable None id = ⊥
+HasStable (Some h) id = id ≤ length (log h)
+
+-- the applications and the clock tell this state, in which nobody has come ahead, and elsewhere all is as at the opening
+pub record Holds {R : Type 0} (history : R → Option (List Recording)) (settled : R → Bool) (snapshots : R → Option (List Snapshot)) (capacity : R → ℕ) (base : Contents) (options : Options) (apps : List (Application R)) (readings : Option Readings) (s : State) : Type 0 where
+  pub each : (i : ℕ) (a : Application R) → slice_get apps i ≡ Some a → HoldsOne history settled snapshots capacity options a s
   pub clock : readings ≡ Some s.readings
+  pub within : StayWithin base.histories s.contents.histories
   pub elsewhere : IsKeptElsewhere base apps s.contents
 
 -- an application tells what is kept of it
@@ -57,9 +74,10 @@ pub record TellsContents {R : Type 0} (history : R → Option (List Recording)) 
   pub told : history a.recorder ≡ Some (c.histories a.name)
   pub told_snapshots : snapshots a.recorder ≡ Some (c.snapshots a.name)
 
--- the applications tell what they keep, and elsewhere all is as at the opening
-pub record HoldContents {R : Type 0} (history : R → Option (List Recording)) (snapshots : R → Option (List Snapshot)) (base : Contents) (apps : List (Application R)) (c : Contents) : Type 0 where
+-- the applications tell what they keep, whoever tracked no more than there was tracks no more than what is stable of its leader has, and elsewhere all is as at the opening
+pub record HoldContents {R : Type 0} (history stable : R → Option (List Recording)) (snapshots : R → Option (List Snapshot)) (base : Contents) (apps : List (Application R)) (c : Contents) : Type 0 where
   pub each : (i : ℕ) (a : Application R) → slice_get apps i ≡ Some a → TellsContents history snapshots a c
+  pub within : (i : ℕ) (a : Application R) → slice_get apps i ≡ Some a → (follower : Name) → (a.name ≡ follower → ⊥) → TracksWithin base.histories a.name follower → HasStable (stable a.recorder) (tracked_in (c.histories follower) a.name)
   pub elsewhere : IsKeptElsewhere base apps c
 
 -- the names of the applications are different
@@ -88,11 +106,17 @@ pub record Stays {R : Type 0} (capacity : R → ℕ) (faults : R → ℕ) (old n
   pub later : faults old.recorder ≤ faults new.recorder
 
 -- and all else that it holds
-pub record IsSame {R : Type 0} (history : R → Option (List Recording)) (capacity : R → ℕ) (snapshots : R → Option (List Snapshot)) (faults : R → ℕ) (old new : Application R) : Type 0 where
+pub record IsSame {R : Type 0} (history : R → Option (List Recording)) (settled : R → Bool) (capacity : R → ℕ) (snapshots : R → Option (List Snapshot)) (faults : R → ℕ) (old new : Application R) : Type 0 where
   pub stays : Stays capacity faults old new
   pub told : history new.recorder ≡ history old.recorder
+  pub settled_is : settled new.recorder ≡ settled old.recorder
   pub kept : snapshots new.recorder ≡ snapshots old.recorder
   pub used : new.used ≡ old.used
+
+-- what a call that may add leaves of what was all settled: so it is after an Ok, and in any case what was held then is stable
+pub record Settles {R T : Type 0} (history stable : R → Option (List Recording)) (settled : R → Bool) (old new : Application R) (result : Result T RunFault) : Type 0 where
+  pub whole : settled old.recorder ≡ true → OnOk result (settled new.recorder ≡ true)
+  pub grows : settled old.recorder ≡ true → GrowsTold (history old.recorder) (stable new.recorder)
 
 -- how often the recorder of the application at a place has failed
 abbrev pub count_of : {R : Type 0} → (R → ℕ) → Option (Application R) → ℕ

@@ -31,8 +31,8 @@ fn numbers_of<R: ProcessRecorder>(
     pair: &Pair,
 ) -> Result<(u64, u64), CallFault>
     requires { IsPairOf sys.now (names_in apps.old) pair.now }
-    ensures told { (base : Contents) (options : Options) (readings : Option Readings) (s : State) → Holds R.history R.snapshots R.capacity base options apps.old readings s → IfOk result (AreNumbers s.contents.histories (names_of_pair pair.now)) }
-    ensures holds { (base : Contents) (options : Options) (readings : Option Readings) (s : State) → Holds R.history R.snapshots R.capacity base options apps.old readings s → Holds R.history R.snapshots R.capacity base options apps.new readings s }
+    ensures told { (base : Contents) (options : Options) (readings : Option Readings) (s : State) → Holds R.history R.settled R.snapshots R.capacity base options apps.old readings s → IfOk result (AreNumbers s.contents.histories (names_of_pair pair.now)) }
+    ensures holds { (base : Contents) (options : Options) (readings : Option Readings) (s : State) → Holds R.history R.settled R.snapshots R.capacity base options apps.old readings s → Holds R.history R.settled R.snapshots R.capacity base options apps.new readings s }
     ensures same { AllStay R.faults apps.old apps.new }
     ensures failed { IsErrOf result CallFault.Failed → SomeRose R.faults apps.old apps.new }
 {
@@ -70,8 +70,8 @@ fn ahead_of<R: ProcessRecorder>(
     pair: &Pair,
 ) -> Result<Option<Ahead>, CallFault>
     requires { IsPairOf sys.now (names_in apps.old) pair.now }
-    ensures told { (base : Contents) (options : Options) (readings : Option Readings) (s : State) → Holds R.history R.snapshots R.capacity base options apps.old readings s → IfOk result (λ found. found ≡ ahead (names_of_pair pair.now ∷ []) s.contents.histories) }
-    ensures holds { (base : Contents) (options : Options) (readings : Option Readings) (s : State) → Holds R.history R.snapshots R.capacity base options apps.old readings s → Holds R.history R.snapshots R.capacity base options apps.new readings s }
+    ensures told { (base : Contents) (options : Options) (readings : Option Readings) (s : State) → Holds R.history R.settled R.snapshots R.capacity base options apps.old readings s → IfOk result (λ found. found ≡ ahead (names_of_pair pair.now ∷ []) s.contents.histories) }
+    ensures holds { (base : Contents) (options : Options) (readings : Option Readings) (s : State) → Holds R.history R.settled R.snapshots R.capacity base options apps.old readings s → Holds R.history R.settled R.snapshots R.capacity base options apps.new readings s }
     ensures same { AllStay R.faults apps.old apps.new }
     ensures failed { IsErrOf result CallFault.Failed → SomeRose R.faults apps.old apps.new }
 {
@@ -89,8 +89,8 @@ pub fn find_ahead<R: ProcessRecorder>(
     apps: &mut [Application<R>],
 ) -> Result<Option<Ahead>, CallFault>
     requires { AreApps sys.now (names_in apps.old) }
-    ensures told { (base : Contents) (options : Options) (readings : Option Readings) (s : State) → Holds R.history R.snapshots R.capacity base options apps.old readings s → IfOk result (λ found. found ≡ ahead (pairs_of sys.now.pipes) s.contents.histories) }
-    ensures holds { (base : Contents) (options : Options) (readings : Option Readings) (s : State) → Holds R.history R.snapshots R.capacity base options apps.old readings s → Holds R.history R.snapshots R.capacity base options apps.new readings s }
+    ensures told { (base : Contents) (options : Options) (readings : Option Readings) (s : State) → Holds R.history R.settled R.snapshots R.capacity base options apps.old readings s → IfOk result (λ found. found ≡ ahead (pairs_of sys.now.pipes) s.contents.histories) }
+    ensures holds { (base : Contents) (options : Options) (readings : Option Readings) (s : State) → Holds R.history R.settled R.snapshots R.capacity base options apps.old readings s → Holds R.history R.settled R.snapshots R.capacity base options apps.new readings s }
     ensures same { AllStay R.faults apps.old apps.new }
     ensures failed { IsErrOf result CallFault.Failed → SomeRose R.faults apps.old apps.new }
 {

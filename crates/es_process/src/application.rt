@@ -11,6 +11,7 @@ ghost use Rattle.es_io.specs.Readings.{Readings, first_reading};
 ghost use Rattle.es_expr.specs.Checked.{IsCheckedSystem};
 ghost use Rattle.es_domain.specs.Decision.{IsNotice, notice};
 ghost use Rattle.es_recorder.specs.Insert.{IsInsertable, first_conflict, too_many};
+ghost use Rattle.es_recorder.specs.Stable.{KeepsStable};
 ghost use Rattle.es_repo.specs.Verdicts.{command_verdict, policy_verdict, FollowsIn, IsSmallVerdict};
 ghost use Rattle.es_lines.specs.CommandText.{command_text};
 ghost use Rattle.es_lines.specs.Requests.{IsDeclared, asks, request_in};
@@ -26,7 +27,7 @@ ghost use Rattle.es_process.specs.SystemRules.{rules_of, decision_of};
 ghost use Rattle.es_process.specs.inner.Adding.{Fits, Adds, PutsOne, PutsDue, Takes, Records, Decides, MayRefuse};
 ghost use Rattle.es_process.specs.Leaves.{MayAsk, MayFailToAdd, Leaves, Processes, IsRecorded, Converts, IsEntry};
 ghost use Rattle.es_process.specs.Traced.{Traced};
-ghost use Rattle.es_process.specs.Standing.{IsSame, IsSmall, IsNextAfter, MayFailToRead, Stays};
+ghost use Rattle.es_process.specs.Standing.{IsSame, IsSmall, IsNextAfter, MayFailToRead, Settles, Stays};
 
 use crate::faults::RunFault;
 use es_domain::Command;
@@ -196,7 +197,8 @@ impl<R: ProcessRecorder> Application<R> {
     /// How many recordings its recorder holds.
     pub fn recordings(&mut self) -> Result<u64, CallFault>
         ensures told { (h : List Recording) → R.history (recorder_of self.old) ≡ Some h → IfOk result (λ n. n ≡ length h) }
-        ensures same { IsSame R.history R.capacity R.snapshots R.faults self.old self.new }
+        ensures same { IsSame R.history R.settled R.capacity R.snapshots R.faults self.old self.new }
+        ensures stable { KeepsStable (R.stable (recorder_of self.old)) (R.stable (recorder_of self.new)) result }
         ensures cause { CallHasCause (R.faults (recorder_of self.old)) (R.faults (recorder_of self.new)) result }
     {
         self.recorder.recordings()
@@ -210,6 +212,7 @@ impl<R: ProcessRecorder> Application<R> {
         ensures faults { IfErr result MayFailToAdd }
         ensures kept { R.snapshots (recorder_of self.new) ≡ R.snapshots (recorder_of self.old) }
         ensures same { Stays R.capacity R.faults self.old self.new }
+        ensures settles { Settles R.history R.stable R.settled self.old self.new result }
         ensures same_used { (used_of self.new) ≡ (used_of self.old) }
         ensures failed { IsErrOf result RunFault.Recorder → Rose (R.faults (recorder_of self.old)) (R.faults (recorder_of self.new)) }
     {
@@ -242,6 +245,7 @@ impl<R: ProcessRecorder> Application<R> {
         ensures told { R.history (recorder_of self.new) ≡ R.history (recorder_of self.old) }
         ensures faults { IfErr result MayFailToRead }
         ensures same { Stays R.capacity R.faults self.old self.new }
+        ensures settled { R.settled (recorder_of self.new) ≡ R.settled (recorder_of self.old) }
         ensures same_used { (used_of self.new) ≡ (used_of self.old) }
         ensures failed { IsErrOf result RunFault.Recorder → Rose (R.faults (recorder_of self.old)) (R.faults (recorder_of self.new)) }
     {
@@ -255,6 +259,8 @@ impl<R: ProcessRecorder> Application<R> {
             → PutsDue (with_due (due_after sys.now (log h) event.now) []) h q result (R.history (recorder_of self.new)) (R.snapshots (recorder_of self.new)) }
         ensures faults { IfErr result MayFailToRead }
         ensures same { Stays R.capacity R.faults self.old self.new }
+        ensures told { R.history (recorder_of self.new) ≡ R.history (recorder_of self.old) }
+        ensures settled { R.settled (recorder_of self.new) ≡ R.settled (recorder_of self.old) }
         ensures same_used { (used_of self.new) ≡ (used_of self.old) }
         ensures failed { IsErrOf result RunFault.Recorder → Rose (R.faults (recorder_of self.old)) (R.faults (recorder_of self.new)) }
     {
@@ -276,6 +282,8 @@ impl<R: ProcessRecorder> Application<R> {
             → PutsDue (due_each (rules_of sys.now) h events.now) h q result (R.history (recorder_of self.new)) (R.snapshots (recorder_of self.new)) }
         ensures faults { IfErr result MayFailToRead }
         ensures same { Stays R.capacity R.faults self.old self.new }
+        ensures told { R.history (recorder_of self.new) ≡ R.history (recorder_of self.old) }
+        ensures settled { R.settled (recorder_of self.new) ≡ R.settled (recorder_of self.old) }
         ensures same_used { (used_of self.new) ≡ (used_of self.old) }
         ensures failed { IsErrOf result RunFault.Recorder → Rose (R.faults (recorder_of self.old)) (R.faults (recorder_of self.new)) }
     {
@@ -305,6 +313,7 @@ impl<R: ProcessRecorder> Application<R> {
             × OnOk result (after ≡ Some (readings_after (takes_reading h request.now) r))) }
         ensures faults { IfErr result MayFailToAdd }
         ensures same { Stays R.capacity R.faults self.old self.new }
+        ensures settles { Settles R.history R.stable R.settled self.old self.new result }
         ensures same_used { (used_of self.new) ≡ (used_of self.old) }
         ensures failed { IsErrOf result RunFault.Recorder → Rose (R.faults (recorder_of self.old)) (R.faults (recorder_of self.new)) }
     {
@@ -338,6 +347,7 @@ impl<R: ProcessRecorder> Application<R> {
             × OnOk result (after ≡ Some (readings_after (not (differs h command.now.id command.now.expect)) r))) }
         ensures faults { IfErr result MayFailToAdd }
         ensures same { Stays R.capacity R.faults self.old self.new }
+        ensures settles { Settles R.history R.stable R.settled self.old self.new result }
         ensures same_used { (used_of self.new) ≡ (used_of self.old) }
         ensures failed { IsErrOf result RunFault.Recorder → Rose (R.faults (recorder_of self.old)) (R.faults (recorder_of self.new)) }
     {
@@ -365,6 +375,7 @@ impl<R: ProcessRecorder> Application<R> {
             → Leaves (answer_of (rules_of sys.now) (R.capacity (recorder_of self.old)) (name_of self.old) h (command_text (name_of self.old) command.now) command.now.id at (decision_of (name_of self.old) (command_verdict sys.now command.now at h))) h q result (R.history (recorder_of self.new)) (R.snapshots (recorder_of self.new)) }
         ensures faults { IfErr result MayFailToAdd }
         ensures same { Stays R.capacity R.faults self.old self.new }
+        ensures settles { Settles R.history R.stable R.settled self.old self.new result }
         ensures same_used { (used_of self.new) ≡ (used_of self.old) }
         ensures failed { IsErrOf result RunFault.Recorder → Rose (R.faults (recorder_of self.old)) (R.faults (recorder_of self.new)) }
     {
@@ -390,6 +401,7 @@ impl<R: ProcessRecorder> Application<R> {
             → Leaves (answer_of (rules_of sys.now) (R.capacity (recorder_of self.old)) (name_of self.old) h (command_text (name_of self.old) command.now) command.now.id at (decision_of (name_of self.old) verdict)) h q result (R.history (recorder_of self.new)) (R.snapshots (recorder_of self.new)) }
         ensures faults { IfErr result MayFailToAdd }
         ensures same { Stays R.capacity R.faults self.old self.new }
+        ensures settles { Settles R.history R.stable R.settled self.old self.new result }
         ensures same_used { (used_of self.new) ≡ (used_of self.old) }
         ensures failed { IsErrOf result RunFault.Recorder → Rose (R.faults (recorder_of self.old)) (R.faults (recorder_of self.new)) }
     {
@@ -421,6 +433,7 @@ impl<R: ProcessRecorder> Application<R> {
             → Leaves (accept_unless (rules_of sys.now) (too_many (R.capacity (recorder_of self.old)) (length (log h)) events) (R.capacity (recorder_of self.old)) (name_of self.old) h (recording_at (Cause.Command (command_text (name_of self.old) command.now)) at events) command.now.id) h q result (R.history (recorder_of self.new)) (R.snapshots (recorder_of self.new)) }
         ensures faults { IfErr result MayFailToAdd }
         ensures same { Stays R.capacity R.faults self.old self.new }
+        ensures settles { Settles R.history R.stable R.settled self.old self.new result }
         ensures same_used { (used_of self.new) ≡ (used_of self.old) }
         ensures failed { IsErrOf result RunFault.Recorder → Rose (R.faults (recorder_of self.old)) (R.faults (recorder_of self.new)) }
     {
@@ -453,6 +466,8 @@ impl<R: ProcessRecorder> Application<R> {
             → Leaves (snapshot_answer (rules_of sys.now) (name_of self.old) q ((rules_of sys.now).read h id None)) h q result (R.history (recorder_of self.new)) (R.snapshots (recorder_of self.new)) }
         ensures faults { IfErr result MayFailToRead }
         ensures same { Stays R.capacity R.faults self.old self.new }
+        ensures told { R.history (recorder_of self.new) ≡ R.history (recorder_of self.old) }
+        ensures settled { R.settled (recorder_of self.new) ≡ R.settled (recorder_of self.old) }
         ensures same_used { (used_of self.new) ≡ (used_of self.old) }
         ensures failed { IsErrOf result RunFault.Recorder → Rose (R.faults (recorder_of self.old)) (R.faults (recorder_of self.new)) }
     {
@@ -479,6 +494,8 @@ impl<R: ProcessRecorder> Application<R> {
             → Leaves (take_unless (is_there q snapshot.now) snapshot.now) h q result (R.history (recorder_of self.new)) (R.snapshots (recorder_of self.new)) }
         ensures faults { IfErr result MayFailToRead }
         ensures same { Stays R.capacity R.faults self.old self.new }
+        ensures told { R.history (recorder_of self.new) ≡ R.history (recorder_of self.old) }
+        ensures settled { R.settled (recorder_of self.new) ≡ R.settled (recorder_of self.old) }
         ensures same_used { (used_of self.new) ≡ (used_of self.old) }
         ensures failed { IsErrOf result RunFault.Recorder → Rose (R.faults (recorder_of self.old)) (R.faults (recorder_of self.new)) }
     {
@@ -496,7 +513,7 @@ impl<R: ProcessRecorder> Application<R> {
     pub fn tracked(&mut self, leader: &Text) -> Result<u64, CallFault>
         ensures value { IfSome (R.history (recorder_of self.old)) (λ h. IfOk result (λ id. id ≡ tracked_in h leader.now)) }
         ensures small { IfOk result (λ id. id < 2 ^ 62) }
-        ensures same { IsSame R.history R.capacity R.snapshots R.faults self.old self.new }
+        ensures same { IsSame R.history R.settled R.capacity R.snapshots R.faults self.old self.new }
         ensures cause { CallHasCause (R.faults (recorder_of self.old)) (R.faults (recorder_of self.new)) result }
     {
         self.recorder.max_tracking_id(leader)
@@ -505,7 +522,7 @@ impl<R: ProcessRecorder> Application<R> {
     /// The id of its last notification, or 0 where it has none.
     pub fn last_notification(&mut self) -> Result<u64, CallFault>
         ensures value { IfSome (R.history (recorder_of self.old)) (λ h. IfOk result (λ id. id ≡ length (log h))) }
-        ensures same { IsSame R.history R.capacity R.snapshots R.faults self.old self.new }
+        ensures same { IsSame R.history R.settled R.capacity R.snapshots R.faults self.old self.new }
         ensures cause { CallHasCause (R.faults (recorder_of self.old)) (R.faults (recorder_of self.new)) result }
     {
         self.recorder.max_notification_id()
@@ -517,7 +534,7 @@ impl<R: ProcessRecorder> Application<R> {
         ensures found { IfSome (R.history (recorder_of self.old)) (λ h. IfOk result (IsNextAfter (log h) tracked)) }
         ensures small { IfOk result (λ found. IfSome found IsSmall) }
         ensures faults { IfErr result MayFailToRead }
-        ensures same { IsSame R.history R.capacity R.snapshots R.faults self.old self.new }
+        ensures same { IsSame R.history R.settled R.capacity R.snapshots R.faults self.old self.new }
         ensures failed { IsErrOf result RunFault.Recorder → Rose (R.faults (recorder_of self.old)) (R.faults (recorder_of self.new)) }
     {
         let next = self.recorder.select_notifications(tracked + 1, 1)?;
@@ -561,6 +578,7 @@ impl<R: ProcessRecorder> Application<R> {
         ensures counted { IsRecorded result → (used_of self.new) ≡ (used_of self.old) + 1 }
         ensures free { IsRecorded result → (used_of self.old) < (turns_of self.old) }
         ensures same { Stays R.capacity R.faults self.old self.new }
+        ensures settles { Settles R.history R.stable R.settled self.old self.new result }
         ensures failed { IsErrOf result RunFault.Recorder → Rose (R.faults (recorder_of self.old)) (R.faults (recorder_of self.new)) }
     {
         let tracked = self.recorder.max_tracking_id(leader)?;
@@ -601,6 +619,7 @@ impl<R: ProcessRecorder> Application<R> {
         ensures counted { OnOk result ((used_of self.new) ≡ (used_of self.old) + 1) }
         ensures free { OnOk result ((used_of self.old) < (turns_of self.old)) }
         ensures same { Stays R.capacity R.faults self.old self.new }
+        ensures settles { Settles R.history R.stable R.settled self.old self.new result }
         ensures failed { IsErrOf result RunFault.Recorder → Rose (R.faults (recorder_of self.old)) (R.faults (recorder_of self.new)) }
     {
         match self.turn() {
@@ -632,6 +651,7 @@ impl<R: ProcessRecorder> Application<R> {
         ensures counts { ((used_of self.new) ≡ (used_of self.old)) ⊎ ((used_of self.new) ≡ (used_of self.old) + 1) }
         ensures counted { OnOk result ((used_of self.new) ≡ (used_of self.old) + 1) }
         ensures same { Stays R.capacity R.faults self.old self.new }
+        ensures settles { Settles R.history R.stable R.settled self.old self.new result }
         ensures failed { IsErrOf result RunFault.Recorder → Rose (R.faults (recorder_of self.old)) (R.faults (recorder_of self.new)) }
     {
         let events = match self.follow(alloc, sys, leader, id, event, at) {
@@ -663,6 +683,7 @@ impl<R: ProcessRecorder> Application<R> {
         ensures counted { OnOk result ((used_of self.new) ≡ (used_of self.old) + 1) }
         ensures faults { IfErr result MayFailToAdd }
         ensures same { Stays R.capacity R.faults self.old self.new }
+        ensures settles { Settles R.history R.stable R.settled self.old self.new result }
         ensures failed { IsErrOf result RunFault.Recorder → Rose (R.faults (recorder_of self.old)) (R.faults (recorder_of self.new)) }
     {
         let inserted = match self.add(recording) {
@@ -694,7 +715,7 @@ impl<R: ProcessRecorder> Application<R> {
         ensures small { IfOk result (λ es. All (λ e. e.originator_version < 2 ^ 63) es) }
         ensures follows { (h : List Recording) → R.history (recorder_of self.old) ≡ Some h → IfOk result (λ es. first_conflict (log h) es ≡ None) }
         ensures faults { IfErr result MayRefuse }
-        ensures same { IsSame R.history R.capacity R.snapshots R.faults self.old self.new }
+        ensures same { IsSame R.history R.settled R.capacity R.snapshots R.faults self.old self.new }
         ensures failed { IsErrOf result RunFault.Recorder → Rose (R.faults (recorder_of self.old)) (R.faults (recorder_of self.new)) }
     {
         let verdict = judge_policy(
@@ -721,7 +742,7 @@ impl<R: ProcessRecorder> Application<R> {
         ensures decides { (h : List Recording) → R.history (recorder_of self.old) ≡ Some h → Decides (name_of self.old) h leader.now id (decision_of (name_of self.old) verdict) result }
         ensures events { IfOk result (λ es. verdict ≡ verdicts.Events es) }
         ensures faults { IfErr result MayRefuse }
-        ensures same { IsSame R.history R.capacity R.snapshots R.faults self.old self.new }
+        ensures same { IsSame R.history R.settled R.capacity R.snapshots R.faults self.old self.new }
         ensures failed { IsErrOf result RunFault.Recorder → Rose (R.faults (recorder_of self.old)) (R.faults (recorder_of self.new)) }
     {
         match verdict {

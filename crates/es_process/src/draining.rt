@@ -32,8 +32,8 @@ fn next_of<R: ProcessRecorder>(
     pair: &Pair,
 ) -> Result<Option<Notification>, RunFault>
     requires pair { IsPairOf sys.now (names_in apps.old) pair.now }
-    ensures found { (base : Contents) (options : Options) (readings : Option _) (s : State) → Holds R.history R.snapshots R.capacity base options apps.old readings s → IfOk result (FindsNext s pair.now) }
-    ensures holds { (base : Contents) (options : Options) (readings : Option _) (s : State) → Holds R.history R.snapshots R.capacity base options apps.old readings s → Holds R.history R.snapshots R.capacity base options apps.new readings s }
+    ensures found { (base : Contents) (options : Options) (readings : Option _) (s : State) → Holds R.history R.settled R.snapshots R.capacity base options apps.old readings s → IfOk result (FindsNext s pair.now) }
+    ensures holds { (base : Contents) (options : Options) (readings : Option _) (s : State) → Holds R.history R.settled R.snapshots R.capacity base options apps.old readings s → Holds R.history R.settled R.snapshots R.capacity base options apps.new readings s }
     ensures small { IfOk result (λ found. IfSome found IsSmall) }
     ensures same_turns { all_left apps.new ≡ all_left apps.old }
     ensures faults { IfErr result MayFailToRead }
@@ -94,9 +94,9 @@ fn process_event<R: ProcessRecorder, C: Clock>(
     requires pair { IsPairOf sys.now (names_in apps.old) pair.now }
     requires means { event_of sys.now notification.now.event ≡ Some event.now }
     requires notice { IsNotice sys.now (notice pair.now.leader_name notification.now.id event.now) }
-    ensures followed { Traced (C.readings clock.old) (C.readings clock.new) (λ before after. (base : Contents) (options : Options) (s : State) (prompted : List Name) (rest : List (Name × Name)) (u : Option (List ℕ)) → Holds R.history R.snapshots R.capacity base options apps.old before s
+    ensures followed { Traced (C.readings clock.old) (C.readings clock.new) (λ before after. (base : Contents) (options : Options) (s : State) (prompted : List Name) (rest : List (Name × Name)) (u : Option (List ℕ)) → Holds R.history R.settled R.snapshots R.capacity base options apps.old before s
         → ArePrompted (names_in apps.old) queue.old.items prompted → FindsNext s pair.now (Some notification.now)
-        → FollowsOne (terms (rules_of sys.now) options) s pair.now (Holds R.history R.snapshots R.capacity base options apps.new after) (HoldContents R.history R.snapshots base apps.new) (names_in apps.old) prompted queue.new.items rest u result) }
+        → FollowsOne (terms (rules_of sys.now) options) s pair.now (Holds R.history R.settled R.snapshots R.capacity base options apps.new after) (HoldContents R.history R.stable R.snapshots base apps.new) (names_in apps.old) prompted queue.new.items rest u result) }
     ensures spent { OnOk result ((all_left apps.new < all_left apps.old) × (length queue.new.items ≤ length queue.old.items + 1)) }
     ensures same { AllStay R.faults apps.old apps.new }
     ensures failed { IsErrOf result RunFault.Recorder → SomeRose R.faults apps.old apps.new }
@@ -131,9 +131,9 @@ fn process_next<R: ProcessRecorder, C: Clock>(
 ) -> Result<bool, RunFault>
     requires pair { IsPairOf sys.now (names_in apps.old) pair.now }
     requires small { IsSmall notification.now }
-    ensures followed { Traced (C.readings clock.old) (C.readings clock.new) (λ before after. (base : Contents) (options : Options) (s : State) (prompted : List Name) (rest : List (Name × Name)) (u : Option (List ℕ)) → Holds R.history R.snapshots R.capacity base options apps.old before s
+    ensures followed { Traced (C.readings clock.old) (C.readings clock.new) (λ before after. (base : Contents) (options : Options) (s : State) (prompted : List Name) (rest : List (Name × Name)) (u : Option (List ℕ)) → Holds R.history R.settled R.snapshots R.capacity base options apps.old before s
         → ArePrompted (names_in apps.old) queue.old.items prompted → FindsNext s pair.now (Some notification.now)
-        → FollowsOne (terms (rules_of sys.now) options) s pair.now (Holds R.history R.snapshots R.capacity base options apps.new after) (HoldContents R.history R.snapshots base apps.new) (names_in apps.old) prompted queue.new.items rest u result) }
+        → FollowsOne (terms (rules_of sys.now) options) s pair.now (Holds R.history R.settled R.snapshots R.capacity base options apps.new after) (HoldContents R.history R.stable R.snapshots base apps.new) (names_in apps.old) prompted queue.new.items rest u result) }
     ensures spent { OnOk result ((all_left apps.new < all_left apps.old) × (length queue.new.items ≤ length queue.old.items + 1)) }
     ensures same { AllStay R.faults apps.old apps.new }
     ensures failed { IsErrOf result RunFault.Recorder → SomeRose R.faults apps.old apps.new }
@@ -159,9 +159,9 @@ fn follow_one<R: ProcessRecorder, C: Clock>(
     clock: &mut C,
 ) -> Result<bool, RunFault>
     requires pair { IsPairOf sys.now (names_in apps.old) pair.now }
-    ensures followed { Traced (C.readings clock.old) (C.readings clock.new) (λ before after. (base : Contents) (options : Options) (s : State) (prompted : List Name) (rest : List (Name × Name)) (u : Option (List ℕ)) → Holds R.history R.snapshots R.capacity base options apps.old before s
+    ensures followed { Traced (C.readings clock.old) (C.readings clock.new) (λ before after. (base : Contents) (options : Options) (s : State) (prompted : List Name) (rest : List (Name × Name)) (u : Option (List ℕ)) → Holds R.history R.settled R.snapshots R.capacity base options apps.old before s
         → ArePrompted (names_in apps.old) queue.old.items prompted
-        → FollowsOne (terms (rules_of sys.now) options) s pair.now (Holds R.history R.snapshots R.capacity base options apps.new after) (HoldContents R.history R.snapshots base apps.new) (names_in apps.old) prompted queue.new.items rest u result) }
+        → FollowsOne (terms (rules_of sys.now) options) s pair.now (Holds R.history R.settled R.snapshots R.capacity base options apps.new after) (HoldContents R.history R.stable R.snapshots base apps.new) (names_in apps.old) prompted queue.new.items rest u result) }
     ensures spent { result ≡ Ok true → all_left apps.new < all_left apps.old }
     ensures spends { OnOk result (Spends apps.old apps.new queue.old.items queue.new.items) }
     ensures same { AllStay R.faults apps.old apps.new }
@@ -186,9 +186,9 @@ fn follow<R: ProcessRecorder, C: Clock>(
     clock: &mut C,
 ) -> Result<(), RunFault>
     requires pair { IsPairOf sys.now (names_in apps.old) pair.now }
-    ensures followed { Traced (C.readings clock.old) (C.readings clock.new) (λ before after. (base : Contents) (options : Options) (s : State) (prompted : List Name) (rest : List (Name × Name)) (u : Option (List ℕ)) → Holds R.history R.snapshots R.capacity base options apps.old before s
+    ensures followed { Traced (C.readings clock.old) (C.readings clock.new) (λ before after. (base : Contents) (options : Options) (s : State) (prompted : List Name) (rest : List (Name × Name)) (u : Option (List ℕ)) → Holds R.history R.settled R.snapshots R.capacity base options apps.old before s
         → ArePrompted (names_in apps.old) queue.old.items prompted
-        → FollowsAll (terms (rules_of sys.now) options) s pair.now (Holds R.history R.snapshots R.capacity base options apps.new after) (HoldContents R.history R.snapshots base apps.new) (names_in apps.old) prompted queue.new.items rest u result) }
+        → FollowsAll (terms (rules_of sys.now) options) s pair.now (Holds R.history R.settled R.snapshots R.capacity base options apps.new after) (HoldContents R.history R.stable R.snapshots base apps.new) (names_in apps.old) prompted queue.new.items rest u result) }
     ensures spends { OnOk result (Spends apps.old apps.new queue.old.items queue.new.items) }
     ensures same { AllStay R.faults apps.old apps.new }
     ensures failed { IsErrOf result RunFault.Recorder → SomeRose R.faults apps.old apps.new }
@@ -214,9 +214,9 @@ fn follow_led<R: ProcessRecorder, C: Clock>(
     clock: &mut C,
 ) -> Result<(), RunFault>
     requires pair { IsPairOf sys.now (names_in apps.old) pair.now }
-    ensures followed { Traced (C.readings clock.old) (C.readings clock.new) (λ before after. (base : Contents) (options : Options) (s : State) (name : Name) (prompted : List Name) (rest : List (Name × Name)) (u : Option (List ℕ)) → Holds R.history R.snapshots R.capacity base options apps.old before s
+    ensures followed { Traced (C.readings clock.old) (C.readings clock.new) (λ before after. (base : Contents) (options : Options) (s : State) (name : Name) (prompted : List Name) (rest : List (Name × Name)) (u : Option (List ℕ)) → Holds R.history R.settled R.snapshots R.capacity base options apps.old before s
         → slice_get (names_in apps.old) leader ≡ Some name → ArePrompted (names_in apps.old) queue.old.items prompted
-        → FollowsLed (terms (rules_of sys.now) options) s pair.now name (Holds R.history R.snapshots R.capacity base options apps.new after) (HoldContents R.history R.snapshots base apps.new) (names_in apps.old) prompted queue.new.items rest u result) }
+        → FollowsLed (terms (rules_of sys.now) options) s pair.now name (Holds R.history R.settled R.snapshots R.capacity base options apps.new after) (HoldContents R.history R.stable R.snapshots base apps.new) (names_in apps.old) prompted queue.new.items rest u result) }
     ensures spends { OnOk result (Spends apps.old apps.new queue.old.items queue.new.items) }
     ensures same { AllStay R.faults apps.old apps.new }
     ensures failed { IsErrOf result RunFault.Recorder → SomeRose R.faults apps.old apps.new }
@@ -238,9 +238,9 @@ fn follow_each<R: ProcessRecorder, C: Clock>(
     clock: &mut C,
 ) -> Result<(), RunFault>
     requires pairs { ArePairs sys.now (names_in apps.old) pairs.now }
-    ensures followed { Traced (C.readings clock.old) (C.readings clock.new) (λ before after. (base : Contents) (options : Options) (s : State) (name : Name) (prompted : List Name) (u : Option (List ℕ)) → Holds R.history R.snapshots R.capacity base options apps.old before s
+    ensures followed { Traced (C.readings clock.old) (C.readings clock.new) (λ before after. (base : Contents) (options : Options) (s : State) (name : Name) (prompted : List Name) (u : Option (List ℕ)) → Holds R.history R.settled R.snapshots R.capacity base options apps.old before s
         → slice_get (names_in apps.old) leader ≡ Some name → ArePrompted (names_in apps.old) queue.old.items prompted
-        → FollowsEach (terms (rules_of sys.now) options) s pairs.now name (Holds R.history R.snapshots R.capacity base options apps.new after) (HoldContents R.history R.snapshots base apps.new) (names_in apps.old) prompted queue.new.items u result) }
+        → FollowsEach (terms (rules_of sys.now) options) s pairs.now name (Holds R.history R.settled R.snapshots R.capacity base options apps.new after) (HoldContents R.history R.stable R.snapshots base apps.new) (names_in apps.old) prompted queue.new.items u result) }
     ensures spends { OnOk result (Spends apps.old apps.new queue.old.items queue.new.items) }
     ensures same { AllStay R.faults apps.old apps.new }
     ensures failed { IsErrOf result RunFault.Recorder → SomeRose R.faults apps.old apps.new }
@@ -266,9 +266,9 @@ pub fn drain_with<R: ProcessRecorder, C: Clock>(
     clock: &mut C,
 ) -> Result<(), RunFault>
     requires pairs { ArePairs sys.now (names_in apps.old) pairs.now }
-    ensures drained { Traced (C.readings clock.old) (C.readings clock.new) (λ before after. (base : Contents) (options : Options) (s : State) (prompted : List Name) (u : Option (List ℕ)) → Holds R.history R.snapshots R.capacity base options apps.old before s
+    ensures drained { Traced (C.readings clock.old) (C.readings clock.new) (λ before after. (base : Contents) (options : Options) (s : State) (prompted : List Name) (u : Option (List ℕ)) → Holds R.history R.settled R.snapshots R.capacity base options apps.old before s
         → ArePrompted (names_in apps.old) queue.old.items prompted
-        → Drains (terms (rules_of sys.now) options) s (Holds R.history R.snapshots R.capacity base options apps.new after) (HoldContents R.history R.snapshots base apps.new) prompted u result) }
+        → Drains (terms (rules_of sys.now) options) s (Holds R.history R.settled R.snapshots R.capacity base options apps.new after) (HoldContents R.history R.stable R.snapshots base apps.new) prompted u result) }
     ensures none { OnOk result (queue.new.items ≡ []) }
     ensures same { AllStay R.faults apps.old apps.new }
     ensures failed { IsErrOf result RunFault.Recorder → SomeRose R.faults apps.old apps.new }
@@ -318,11 +318,11 @@ pub fn drain<R: ProcessRecorder, C: Clock>(
 ) -> Result<(), RunFault>
     requires apps { AreApps sys.now (names_in apps.old) }
     requires declared { All (Contains (names_in apps.old)) prompted.now }
-    ensures drained { Traced (C.readings clock.old) (C.readings clock.new) (λ before after. (base : Contents) (options : Options) (s : State) (u : Option (List ℕ)) → Holds R.history R.snapshots R.capacity base options apps.old before s
-        → Drains (terms (rules_of sys.now) options) s (Holds R.history R.snapshots R.capacity base options apps.new after) (HoldContents R.history R.snapshots base apps.new) prompted.now u result) }
-    ensures reached { Traced (C.readings clock.old) (C.readings clock.new) (λ before after. (base : Contents) (options : Options) (s : State) → Holds R.history R.snapshots R.capacity base options apps.old before s
+    ensures drained { Traced (C.readings clock.old) (C.readings clock.new) (λ before after. (base : Contents) (options : Options) (s : State) (u : Option (List ℕ)) → Holds R.history R.settled R.snapshots R.capacity base options apps.old before s
+        → Drains (terms (rules_of sys.now) options) s (Holds R.history R.settled R.snapshots R.capacity base options apps.new after) (HoldContents R.history R.stable R.snapshots base apps.new) prompted.now u result) }
+    ensures reached { Traced (C.readings clock.old) (C.readings clock.new) (λ before after. (base : Contents) (options : Options) (s : State) → Holds R.history R.settled R.snapshots R.capacity base options apps.old before s
         → prompted.now ≡ leaders_in (pairs_of sys.now.pipes) → ahead (pairs_of sys.now.pipes) s.contents.histories ≡ None
-        → OnOk result ((left : Contents) → HoldContents R.history R.snapshots base apps.new left → IsReached (pairs_of sys.now.pipes) left.histories)) }
+        → OnOk result ((left : Contents) → HoldContents R.history R.stable R.snapshots base apps.new left → IsReached (pairs_of sys.now.pipes) left.histories)) }
     ensures same { AllStay R.faults apps.old apps.new }
     ensures failed { IsErrOf result RunFault.Recorder → SomeRose R.faults apps.old apps.new }
 {

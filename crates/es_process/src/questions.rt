@@ -47,7 +47,7 @@ impl<R: ProcessRecorder> Application<R> {
         requires { IsCheckedSystem sys.now }
         ensures told { IfSome (R.history (recorder_of self.old)) (λ h. IfOk result (λ reply. reply ≡ get_reply (rules_of sys.now) (name_of self.old) id version h)) }
         ensures faults { IfErr result MayFailToRead }
-        ensures same { IsSame R.history R.capacity R.snapshots R.faults self.old self.new }
+        ensures same { IsSame R.history R.settled R.capacity R.snapshots R.faults self.old self.new }
         ensures failed { IsErrOf result RunFault.Recorder → Rose (R.faults (recorder_of self.old)) (R.faults (recorder_of self.new)) }
     {
         let mut repository = Repository::new(alloc, 0)?;
@@ -74,7 +74,7 @@ impl<R: ProcessRecorder> Application<R> {
     pub(crate) fn log(&mut self, sys: &System, text: &Text) -> Result<Reply, RunFault>
         ensures told { IfSome (R.history (recorder_of self.old)) (λ h. IfOk result (λ reply. reply ≡ log_reply (rules_of sys.now) (name_of self.old) text.now h)) }
         ensures faults { IfErr result MayFailToRead }
-        ensures same { IsSame R.history R.capacity R.snapshots R.faults self.old self.new }
+        ensures same { IsSame R.history R.settled R.capacity R.snapshots R.faults self.old self.new }
         ensures failed { IsErrOf result RunFault.Recorder → Rose (R.faults (recorder_of self.old)) (R.faults (recorder_of self.new)) }
     {
         let size = section_size(sys, &self.name);
@@ -90,7 +90,7 @@ impl<R: ProcessRecorder> Application<R> {
     pub(crate) fn position(&mut self, leader: &Text) -> Result<Reply, RunFault>
         ensures told { IfSome (R.history (recorder_of self.old)) (λ h. IfOk result (λ reply. reply ≡ tracking_reply leader.now h)) }
         ensures faults { IfErr result MayFailToRead }
-        ensures same { IsSame R.history R.capacity R.snapshots R.faults self.old self.new }
+        ensures same { IsSame R.history R.settled R.capacity R.snapshots R.faults self.old self.new }
         ensures failed { IsErrOf result RunFault.Recorder → Rose (R.faults (recorder_of self.old)) (R.faults (recorder_of self.new)) }
     {
         let position = self.tracked(leader)?;

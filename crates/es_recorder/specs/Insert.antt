@@ -1,5 +1,5 @@
 -- What an insert answers, and what it leaves.
-use Rattle.std.specs.Prelude.{◌≡◌, ◌⊎◌, ◌≤◌, ◌<◌, ◌^◌, ℕ, ◌+◌, ◌==◌, nat_lt, nat_le, List, [], ◌∷◌, ◌++◌, length, All, if◌then◌else◌, Option, Some, None, Result, Ok, Err, IsErrOf}
+use Rattle.std.specs.Prelude.{◌≡◌, ◌⊎◌, ◌≤◌, ◌<◌, ◌^◌, ℕ, ◌+◌, ◌==◌, nat_lt, nat_le, Bool, true, List, [], ◌∷◌, ◌++◌, length, All, if◌then◌else◌, Option, Some, None, Result, Ok, Err, IsErrOf}
 use Rattle.std.specs.Option.{option_or}
 use Rattle.es_model.specs.declared.event.Recording.{Recording}
 use Rattle.es_model.specs.declared.event.StoredEvent.{StoredEvent}
@@ -70,6 +70,15 @@ StableAfter old new history (Err NoMemory) = new ≡ old
 StableAfter old new history (Err (Conflict id version newest)) = new ≡ old
 StableAfter old new history (Err (Tracking leader id tracked)) = new ≡ old
 StableAfter old new history (Err (Full last most)) = new ≡ old
+
+-- after an Ok all is settled, after a failure it may not be, and else nothing changes
+abbrev pub SettledAfter : Bool → Bool → Result Inserted InsertFault → Type 0
+SettledAfter old new (Ok i) = new ≡ true
+SettledAfter old new (Err Failed) = Unit {0}
+SettledAfter old new (Err NoMemory) = new ≡ old
+SettledAfter old new (Err (Conflict id version newest)) = new ≡ old
+SettledAfter old new (Err (Tracking leader id tracked)) = new ≡ old
+SettledAfter old new (Err (Full last most)) = new ≡ old
 
 -- the numbers of an added recording, and the last id of a full history, are below 2^62, told or not
 abbrev pub IsSmall : Result Inserted InsertFault → Type 0

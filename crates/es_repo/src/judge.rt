@@ -32,7 +32,7 @@ fn command_decided<R: ProcessRecorder>(
     requires command { IsOfCommand (command_named sys.now command.now.class command.now.name) command.now.args }
     ensures decision { (h : List Recording) → R.history recorder.old ≡ Some h → Decides (command_decision sys.now command.now at (readings_of sys.now (log h))) result }
     ensures events { IfOk result (AreNewEvents sys.now) }
-    ensures same { IsSameRecorder R.history R.snapshots R.capacity recorder.old recorder.new }
+    ensures same { IsSameRecorder R.history R.settled R.snapshots R.capacity recorder.old recorder.new }
     ensures cause { FindHasCause (R.faults recorder.old) (R.faults recorder.new) result }
 {
     let mut reader = Reader {
@@ -62,7 +62,7 @@ fn policy_decided<R: ProcessRecorder>(
     requires notice { IsNotice sys.now (notice leader.now id event.now) }
     ensures decision { (h : List Recording) → R.history recorder.old ≡ Some h → Decides (policy_by sys.now app.now (notice leader.now id event.now) at (readings_with sys.now (log h))) result }
     ensures events { IfOk result (AreNewEvents sys.now) }
-    ensures same { IsSameRecorder R.history R.snapshots R.capacity recorder.old recorder.new }
+    ensures same { IsSameRecorder R.history R.settled R.snapshots R.capacity recorder.old recorder.new }
     ensures cause { FindHasCause (R.faults recorder.old) (R.faults recorder.new) result }
 {
     let mut reader = Reader {
@@ -89,7 +89,7 @@ pub fn judge_command<R: ProcessRecorder>(
     ensures verdict { (h : List Recording) → R.history recorder.old ≡ Some h → IfOk result (λ v. v ≡ command_verdict sys.now command.now at h) }
     ensures small { IfOk result IsSmallVerdict }
     ensures follows { (h : List Recording) → R.history recorder.old ≡ Some h → IfOk result (FollowsIn (log h)) }
-    ensures same { IsSameRecorder R.history R.snapshots R.capacity recorder.old recorder.new }
+    ensures same { IsSameRecorder R.history R.settled R.snapshots R.capacity recorder.old recorder.new }
     ensures cause { CallHasCause (R.faults recorder.old) (R.faults recorder.new) result }
 {
     let decided = command_decided(alloc, sys, recorder, command, at);
@@ -115,7 +115,7 @@ pub fn judge_policy<R: ProcessRecorder>(
     ensures stored { (h : List Recording) → R.history recorder.old ≡ Some h → IfOk result (AcceptsAs (stored_verdict sys.now app.now (notice leader.now id event.now) at h)) }
     ensures small { IfOk result IsSmallVerdict }
     ensures follows { (h : List Recording) → R.history recorder.old ≡ Some h → IfOk result (FollowsIn (log h)) }
-    ensures same { IsSameRecorder R.history R.snapshots R.capacity recorder.old recorder.new }
+    ensures same { IsSameRecorder R.history R.settled R.snapshots R.capacity recorder.old recorder.new }
     ensures cause { CallHasCause (R.faults recorder.old) (R.faults recorder.new) result }
 {
     let decided = policy_decided(alloc, sys, app, recorder, leader, id, event, at);

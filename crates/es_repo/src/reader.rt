@@ -49,7 +49,7 @@ fn stuck_at<R: ApplicationRecorder>(
 ) -> Result<Option<Aggregate>, FindFault>
     ensures reading { IfSome (R.history recorder.old) (λ h. (n : ℕ) → notification_of (log h) id version ≡ Some n → Reads (unreadable n) result) }
     ensures none { IfOk result (λ _. ⊥) }
-    ensures same { IsSameRecorder R.history R.snapshots R.capacity recorder.old recorder.new }
+    ensures same { IsSameRecorder R.history R.settled R.snapshots R.capacity recorder.old recorder.new }
     ensures cause { FindHasCause (R.faults recorder.old) (R.faults recorder.new) result }
 {
     match recorder.notification_of(id, version) {
@@ -86,7 +86,7 @@ fn answer<R: ApplicationRecorder>(
 ) -> Result<Option<Aggregate>, FindFault>
     ensures reading { (sys : System) (version : Option ℕ) → IfSome (R.history recorder.old) (λ h. folded ≡ folded_from sys None (select_events (log h) id None version false None) → Reads (reading_at sys (log h) id version) result) }
     ensures found { (sys : System) → IsWhole sys folded → IfOk result (λ found. IfSome found (IsFound sys id)) }
-    ensures same { IsSameRecorder R.history R.snapshots R.capacity recorder.old recorder.new }
+    ensures same { IsSameRecorder R.history R.settled R.snapshots R.capacity recorder.old recorder.new }
     ensures cause { FindHasCause (R.faults recorder.old) (R.faults recorder.new) result }
 {
     match folded {
@@ -106,7 +106,7 @@ pub(crate) fn read<R: ApplicationRecorder>(
     requires checked { IsCheckedSystem sys.now }
     ensures reading { IfSome (R.history recorder.old) (λ h. Reads (reading_at sys.now (log h) id version) result) }
     ensures found { IfOk result (λ found. IfSome found (IsFound sys.now id)) }
-    ensures same { IsSameRecorder R.history R.snapshots R.capacity recorder.old recorder.new }
+    ensures same { IsSameRecorder R.history R.settled R.snapshots R.capacity recorder.old recorder.new }
     ensures cause { FindHasCause (R.faults recorder.old) (R.faults recorder.new) result }
 {
     let events = match recorder.select_events(id, None, version, false, None) {
@@ -170,7 +170,7 @@ impl<'a, R: ApplicationRecorder> Aggregates for Reader<'a, R> {
 
     ghost Kept = { Kept };
 
-    ghost kept = { λ r. kept_of R.history R.snapshots R.capacity r };
+    ghost kept = { λ r. kept_of R.history R.settled R.snapshots R.capacity r };
 
     ghost faults = { λ r. R.faults r.recorder.now };
 

@@ -81,7 +81,7 @@ impl Repository {
         requires { IsCheckedSystem sys.now }
         ensures fold { IfSome (R.history recorder.old) (λ h. Gets sys.now (notifications_upto (log h) id version) result) }
         ensures found { IfOk result (IsFound sys.now id) }
-        ensures same { IsSameRecorder R.history R.snapshots R.capacity recorder.old recorder.new }
+        ensures same { IsSameRecorder R.history R.settled R.snapshots R.capacity recorder.old recorder.new }
         ensures cache { self.new ≡ self.old }
         ensures cause { GetHasCause (R.faults recorder.old) (R.faults recorder.new) result }
     {

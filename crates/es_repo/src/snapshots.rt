@@ -106,7 +106,7 @@ pub fn snapshot_due<R: ApplicationRecorder>(
     requires checked { IsCheckedSystem sys.now }
     ensures due { IfSome (R.history recorder.old) (λ h. IfOk result (λ s. s ≡ due_after sys.now (log h) event.now)) }
     ensures small { IfOk result (λ s. IfSome s IsSmallSnapshot) }
-    ensures same { IsSameRecorder R.history R.snapshots R.capacity recorder.old recorder.new }
+    ensures same { IsSameRecorder R.history R.settled R.snapshots R.capacity recorder.old recorder.new }
     ensures cause { CallHasCause (R.faults recorder.old) (R.faults recorder.new) result }
 {
     let version = event.originator_version;
@@ -130,7 +130,7 @@ pub fn is_kept<R: AggregateRecorder>(
     snapshot: &Snapshot,
 ) -> Result<bool, CallFault>
     ensures value { IfSome (R.snapshots recorder.old) (λ q. IfOk result (λ there. there ≡ is_there q snapshot.now)) }
-    ensures same { IsSameRecorder R.history R.snapshots R.capacity recorder.old recorder.new }
+    ensures same { IsSameRecorder R.history R.settled R.snapshots R.capacity recorder.old recorder.new }
     ensures cause { CallHasCause (R.faults recorder.old) (R.faults recorder.new) result }
 {
     let upto = Some(snapshot.originator_version);

@@ -54,7 +54,7 @@ pub fn section<R: ApplicationRecorder>(
     ensures is_section { IfOk result (λ s. IfSome (bounds_of request.now) (λ b. IsSection b.0 b.1 size s)) }
     ensures bad { (result ≡ Err SectionFault.BadRequest) ↔ (bounds_of request.now ≡ None) }
     ensures untouched { result ≡ Err SectionFault.BadRequest → recorder.new ≡ recorder.old }
-    ensures same { KeepsHeld R.history R.stable R.snapshots R.capacity recorder.old recorder.new (call_of result) }
+    ensures same { KeepsHeld R.history R.stable R.settled R.snapshots R.capacity recorder.old recorder.new (call_of result) }
     ensures selected { IfOk result (λ s. R.selected recorder.new ≡ count_after (R.selected recorder.old) (call_of result)) }
     ensures cause { CallHasCause (R.faults recorder.old) (R.faults recorder.new) (call_of result) }
 {

@@ -5,13 +5,14 @@ use Rattle.es_model.specs.declared.declaration.System.{System}
 use Rattle.es_model.specs.declared.event.Recording.{Recording}
 use Rattle.es_model.specs.declared.event.Cause.TheVariants.{Command}
 use Rattle.es_model.specs.declared.snapshot.Snapshot.{Snapshot as SnapshotOf}
-use Rattle.es_model.specs.History.{log, latest}
+use Rattle.es_model.specs.History.{Histories, log, latest}
 use Rattle.es_model.specs.Lines.{Line, text}
 use Rattle.es_model.specs.Snapshots.{put_snapshot}
 use Rattle.es_model.specs.Values.{Name, Id}
 use Rattle.es_io.specs.Readings.{Readings, first_reading}
 use Rattle.es_domain.specs.Readings.{Reading, folded, unreadable as unread}
 use Rattle.es_recorder.specs.declared.recorder.InsertFault.{InsertFault}
+use Rattle.es_recorder.specs.Held.{put}
 use Rattle.es_recorder.specs.Insert.{too_many}
 use Rattle.es_recorder.specs.Selections.{notifications}
 use Rattle.es_repo.specs.Snapshots.{is_there}
@@ -34,13 +35,15 @@ use Rattle.es_process.specs.Decision.{Rules, Logs, Decision, events, refused, un
 use Rattle.es_process.specs.Leaves.{Tells, PutsFirst, Gives, MayAdd, Leaves}
 use Rattle.es_process.specs.Questions.{reply_read, reply_section}
 use Rattle.es_process.specs.SingleThread.{Place, turn_at, request_turn, app_turn, answer_turn, readings_after, adds_and_says, snaps_and_says, records, snaps, writes, snaps_each}
-use Rattle.es_process.specs.Standing.{State, Setting, Ended, CutShort, Faulted}
+use Rattle.es_process.specs.Standing.{State, Setting, StayWithin, Ended, CutShort, Faulted}
 use Rattle.es_process.specs.SystemRules.{rules_of}
 use Rattle.es_process.specs.Terms.{Terms, terms}
 use Rattle.es_process.proofs.AmongLemmas.{put-here}
+use Rattle.es_process.proofs.FollowsLemmas.{Grows-put}
 use Rattle.es_process.proofs.HoldsLemmas.{AreAlikeBut, alike-same, alike-added, alike-snapped}
 use Rattle.es_process.proofs.SingleThreadLemmas.{run-finished, left_by-added, written_by-snaps}
 use Rattle.es_process.proofs.StandingLemmas.{appends_nothing, front_none, adds-parts, Cut-none, Cut-turn}
+use Rattle.es_process.proofs.StableLemmas.{TrackFrom, command-there, track-added, within-grown}
 use Rattle.es_single.specs.Answers.{Answers, Replies, at_line, after_reply}
 use Rattle.es_single.specs.inner.Prompts.{is_accepted, prompted_by, word_reply}
 
@@ -71,30 +74,45 @@ word_answered t s (Snapshot app id) told H is held = absurd (cc is)
 
 -- ---- the answer to what a line asks of an application
 
+-- whoever tracked no more than there was does so still
+abbrev pub StayFrom : Histories → Histories → Type 0
+StayFrom old new = (openings : Histories) → StayWithin openings old → StayWithin openings new
+
 -- the state after an answer
 abbrev answered_with : State → Contents → Readings → State
 answered_with s c r = record { contents = c; readings = r; used = s.used }
 
--- only an answer that accepts a command gives the reply that does
+-- a command is its cause
+abbrev pub IsCommanded : Recording → Type 0
+IsCommanded r = (asked : List ℕ) × (r.cause ≡ Command asked)
+
+-- only an answer that accepts a command gives the reply that does, and that command is the cause of what is added
 abbrev Prompts : Answer → Type 0
 Prompts (says told) = is_accepted told ≡ false
-Prompts (accepts r ss told) = is_accepted told ≡ true
+Prompts (accepts r ss told) = (is_accepted told ≡ true) × IsCommanded r
 Prompts (takes sn told) = is_accepted told ≡ false
 Prompts (ends e) = Unit {0}
+
+-- it tracks nothing
+pub track-commanded : (openings h : Histories) (app : Name) (r : Recording) → IsCommanded r → StayWithin openings h → TrackFrom openings h (put h app (h app ++ r ∷ []))
+track-commanded openings h app r commanded within = track-added openings h app r within (command-there h r.cause commanded.0 commanded.1)
+
+stay-added : (h : Histories) (app : Name) (r : Recording) → IsCommanded r → StayFrom h (put h app (h app ++ r ∷ []))
+stay-added h app r commanded = λ openings within. within-grown openings h (put h app (h app ++ r ∷ [])) (track-commanded openings h app r commanded within) (Grows-put h app r)
 
 prompts_either : (b : Bool) (x y : Answer) → Prompts x → Prompts y → Prompts (if b then x else y)
 prompts_either true x y first second = first
 prompts_either false x y first second = second
 
-prompts_room : (rules : Rules) (room : Option InsertFault) (capacity : ℕ) (app : Name) (h : List Recording) (r : Recording) (id : Id) → Prompts (accept_unless rules room capacity app h r id)
-prompts_room rules None capacity app h r id = refl
-prompts_room rules (Some full) capacity app h r id = tt
+prompts_room : (rules : Rules) (room : Option InsertFault) (capacity : ℕ) (app : Name) (h : List Recording) (r : Recording) (id : Id) → IsCommanded r → Prompts (accept_unless rules room capacity app h r id)
+prompts_room rules None capacity app h r id commanded = (refl, commanded)
+prompts_room rules (Some full) capacity app h r id commanded = tt
 
 prompts_decision : (rules : Rules) (capacity : ℕ) (app : Name) (h : List Recording) (asked : List ℕ) (id : Id) (at : ℤ) (d : Decision) → Prompts (answer_of rules capacity app h asked id at d)
 prompts_decision rules capacity app h asked id at (refused code rule) = refl
 prompts_decision rules capacity app h asked id at (unreadable other n) = refl
 prompts_decision rules capacity app h asked id at (events es) =
-    prompts_room rules (too_many capacity (length (log h)) es) capacity app h (recording_of (Command asked) at es) id
+    prompts_room rules (too_many capacity (length (log h)) es) capacity app h (recording_of (Command asked) at es) id (asked, refl)
 
 prompts_read : (app : Name) (r : Reading) → Prompts (says (reply_read app r))
 prompts_read app (folded None) = refl
@@ -150,6 +168,9 @@ module _ (sys : System) (o : Options) (s : State) (app : Name) (r : RequestOf) (
   abbrev its_answer : Answer
   its_answer = request_answer (rules_of sys) o.capacity app h q (logs_of s.contents.histories) r (first_reading s.readings)
 
+  its_prompts : Prompts its_answer
+  its_prompts = prompts (rules_of sys) o.capacity app h q (logs_of s.contents.histories) r (first_reading s.readings)
+
   abbrev readings : Readings
   readings = readings_after (takes_reading h r) s.readings
 
@@ -170,7 +191,9 @@ module _ (sys : System) (o : Options) (s : State) (app : Name) (r : RequestOf) (
   -- it gave a reply; what is held then follows from what it keeps now
   module _ (H : State → List Name → Type 0) (told : Reply) (new : Option (List Recording)) (now : Option (List SnapshotOf)) where
     abbrev Held : Type 0
-    Held = (next : State) → Tells (next.contents.histories app) (next.contents.snapshots app) new now → AreAlikeBut app s.contents next.contents → next.readings ≡ readings → next.used ≡ s.used → H next (prompted_by told app)
+    Held =
+        (next : State) → Tells (next.contents.histories app) (next.contents.snapshots app) new now → AreAlikeBut app s.contents next.contents → StayFrom s.contents.histories next.contents.histories → next.readings ≡ readings → next.used ≡ s.used
+        → H next (prompted_by told app)
 
     -- whom the reply prompts
     held_prompted : (next : State) (expected : Reply) (b : Bool) → told ≡ expected → is_accepted expected ≡ b → H next (prompted_by told app) → H next (if b then app ∷ [] else [])
@@ -181,19 +204,19 @@ module _ (sys : System) (o : Options) (s : State) (app : Name) (r : RequestOf) (
       changes = [];
       state = same_kept;
       prompted = [];
-      held = held_prompted same_kept expected false gives.0 prompting (so same_kept gives.1 (alike-same app s.contents) refl refl);
+      held = held_prompted same_kept expected false gives.0 prompting (so same_kept gives.1 (alike-same app s.contents) (λ openings within. within) refl refl);
       turn = turn_answer (says told) (is ∙ ap says (sym gives.0));
     }
     by_answer (accepts more ss expected) is prompting gives so = record {
       changes = records app more ∷ snaps_each app ss;
       state = recorded_at more ss;
       prompted = app ∷ [];
-      held = held_prompted (recorded_at more ss) expected true gives.0 prompting (so (recorded_at more ss)
+      held = held_prompted (recorded_at more ss) expected true gives.0 prompting.0 (so (recorded_at more ss)
           (record {
             recordings = gives.1.recordings ∙ ap Some (sym (put-here s.contents.histories app (h ++ more ∷ [])));
             snapshots = gives.1.snapshots ∙ ap Some (sym (put-here s.contents.snapshots app (put_each q ss)));
           })
-          (alike-added app s.contents more ss) refl refl);
+          (alike-added app s.contents more ss) (stay-added s.contents.histories app more prompting.1) refl refl);
       turn = turn_answer (accepts more ss told) (is ∙ ap (accepts more ss) (sym gives.0));
     }
     by_answer (takes sn expected) is prompting gives so = record {
@@ -202,17 +225,17 @@ module _ (sys : System) (o : Options) (s : State) (app : Name) (r : RequestOf) (
       prompted = [];
       held = held_prompted (snapped_at sn) expected false gives.0 prompting (so (snapped_at sn)
           (record { recordings = gives.1.recordings; snapshots = gives.1.snapshots ∙ ap Some (sym (put-here s.contents.snapshots app (put_snapshot q sn))) })
-          (alike-snapped app s.contents sn) refl refl);
+          (alike-snapped app s.contents sn) (λ openings within. within) refl refl);
       turn = turn_answer (takes sn told) (is ∙ ap (takes sn) (sym gives.0));
     }
     by_answer (ends e) is prompting gives so = absurd gives
 
     pub line_answered : Gives its_answer h q told new now → Held → Replies t s r told H
-    line_answered gives so = by_answer its_answer refl (prompts (rules_of sys) o.capacity app h q (logs_of s.contents.histories) r (first_reading s.readings)) gives so
+    line_answered gives so = by_answer its_answer refl its_prompts gives so
 
   -- it failed to answer; what all applications keep follows from what it keeps now
   module _ (L : Contents → Type 0) (line : List ℕ) (asked : request_in sys line ≡ asks r) (u : Option (List ℕ)) (new : Option (List Recording)) (now : Option (List SnapshotOf)) (unchanged : Tells h q new now → L s.contents)
-      (more : (one : Recording) (ss : List SnapshotOf) → Tells (h ++ one ∷ []) (put_each q ss) new now → L (added s.contents app one ss))
+      (more : (one : Recording) (ss : List SnapshotOf) → IsCommanded one → Tells (h ++ one ∷ []) (put_each q ss) new now → L (added s.contents app one ss))
       (taken : (sn : SnapshotOf) → Tells h (put_snapshot q sn) new now → L (snapped s.contents app sn)) where
     turn_line : (a : Answer) → its_answer ≡ a → (σ : Setting) → turn_at t.rules o σ.openings (at_line s (text line) σ) ≡ answer_turn (at_line s (text line) σ) σ.lines app readings a
     turn_line a is σ = ap (request_turn t.rules o (at_line s (text line) σ) σ.lines) asked ∙ turn_answer a is σ (text line)
@@ -231,11 +254,11 @@ module _ (sys : System) (o : Options) (s : State) (app : Name) (r : RequestOf) (
     line_cut same = cut_at_line t s (text line) L u (unchanged same)
 
     -- the recording was added, and the first of its snapshots
-    cut_adding : (one : Recording) (ss : List SnapshotOf) (told : Reply) → its_answer ≡ accepts one ss told → PutsFirst ss (h ++ one ∷ []) q new now → CutShort t (at_line s (text line)) L u u []
-    cut_adding one ss told is first = record {
+    cut_adding : (one : Recording) (ss : List SnapshotOf) (told : Reply) → its_answer ≡ accepts one ss told → IsCommanded one → PutsFirst ss (h ++ one ∷ []) q new now → CutShort t (at_line s (text line)) L u u []
+    cut_adding one ss told is commanded first = record {
       done = records app one ∷ snaps_each app first.front;
       contents = added s.contents app one first.front;
-      held = more one first.front first.tells;
+      held = more one first.front commanded first.tells;
       cut = λ σ. Cut-turn t σ.openings (at_line s (text line) σ) (after_reply (recorded_at one ss) (app ∷ []) σ) (adds_and_says app one ss told) (records app one ∷ snaps_each app first.front)
           (snaps_each app first.rest ++ writes (reply_text told) ∷ []) [] (turn_line (accepts one ss told) is σ) (adds-parts app one ss first.front first.rest (writes (reply_text told) ∷ []) first.parts)
           (λ behind. front_none ((snaps_each app first.rest ++ writes (reply_text told) ∷ []) ++ behind));
@@ -255,18 +278,18 @@ module _ (sys : System) (o : Options) (s : State) (app : Name) (r : RequestOf) (
       written = appends_nothing u;
     }
 
-    line_added : (a : Answer) → its_answer ≡ a → MayAdd a h q new now → CutShort t (at_line s (text line)) L u u []
-    line_added (says told) is may = line_cut may
-    line_added (accepts one ss told) is (inl same) = line_cut same
-    line_added (accepts one ss told) is (inr first) = cut_adding one ss told is first
-    line_added (takes sn told) is (inl same) = line_cut same
-    line_added (takes sn told) is (inr tells) = cut_taking sn told is tells
-    line_added (ends e) is may = line_cut may
+    line_added : (a : Answer) → its_answer ≡ a → Prompts a → MayAdd a h q new now → CutShort t (at_line s (text line)) L u u []
+    line_added (says told) is prompting may = line_cut may
+    line_added (accepts one ss told) is prompting (inl same) = line_cut same
+    line_added (accepts one ss told) is prompting (inr first) = cut_adding one ss told is prompting.1 first
+    line_added (takes sn told) is prompting (inl same) = line_cut same
+    line_added (takes sn told) is prompting (inr tells) = cut_taking sn told is tells
+    line_added (ends e) is prompting may = line_cut may
 
     pub line_failed : (f : RunFault) → Leaves its_answer h q (Err f) new now → Faulted t (at_line s (text line)) f L u u
     line_failed (fault.Refused name leader id recordings code rule) so = line_ended (Refused name leader id recordings code rule) so.0 so.1
     line_failed (fault.Turns name turns) so = line_ended (Turns name turns) so.0 so.1
     line_failed (fault.Unreadable name id) so = line_ended (Unreadable name id) so.0 so.1
     line_failed (fault.Full name last capacity) so = line_ended (Full name last capacity) so.0 so.1
-    line_failed fault.Recorder so = line_added its_answer refl so
-    line_failed fault.NoMemory so = line_added its_answer refl so
+    line_failed fault.Recorder so = line_added its_answer refl its_prompts so
+    line_failed fault.NoMemory so = line_added its_answer refl its_prompts so

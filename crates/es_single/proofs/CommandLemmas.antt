@@ -10,6 +10,7 @@ use Rattle.es_model.specs.Declaration.{app_named}
 use Rattle.es_model.specs.Snapshots.{put_snapshot}
 use Rattle.es_model.specs.Values.{Name}
 use Rattle.es_io.specs.Readings.{Readings, first_reading}
+use Rattle.es_recorder.specs.Stable.{GrowsTold}
 use Rattle.es_decl.proofs.CheckedSystemLemmas.{declared-name}
 use Rattle.es_domain.specs.declared.command.Command.{Command}
 use Rattle.es_lines.specs.CommandText.{command_text}
@@ -31,10 +32,11 @@ use Rattle.es_process.specs.Standing.{State, HoldsOne, Holds, HoldContents, AreD
 use Rattle.es_process.specs.SystemRules.{rules_of}
 use Rattle.es_process.specs.Terms.{terms}
 use Rattle.es_process.proofs.AmongLemmas.{contains-among, put-here, same-name}
-use Rattle.es_process.proofs.HoldsLemmas.{AreAlikeBut, alike-same, alike-added, alike-snapped, app-at, held-contents, contents-set, holds-set}
+use Rattle.es_process.proofs.HoldsLemmas.{AreAlikeBut, alike-same, alike-added, alike-snapped, app-at, contents-set, holds-set}
+use Rattle.es_process.proofs.StableLemmas.{TrackFrom}
 use Rattle.es_single.specs.Answers.{Answers, Replies, IsAsked}
 use Rattle.es_single.specs.inner.Prompts.{prompted_by}
-use Rattle.es_single.proofs.AnswerLemmas.{line_answered, line_failed}
+use Rattle.es_single.proofs.AnswerLemmas.{line_answered, line_failed, track-commanded}
 
 -- the item at a place of a list
 get-below : {A : Type 0} (xs : List A) (i : ℕ) (x : A) → slice_get xs i ≡ Some x → i < length xs
@@ -77,9 +79,9 @@ module _ {R : Type 0} (apps : List (Application R)) (i : ℕ) (d : Application R
   found-name = let a = app-at apps i name there in ap (λ (x : Application R). x.name) (get-at apps i a.0 d a.1) ∙ a.2
 
 -- the application at a place became another by answering what a line asks of it
-module _ {R : Type 0} (history : R → Option (List Recording)) (snapshots : R → Option (List SnapshotOf)) (capacity : R → ℕ) (apps : List (Application R)) (distinct : AreDistinct (names_in apps)) (i : ℕ) (a b : Application R) (at : slice_get apps i ≡ Some a) (named : b.name ≡ a.name)
-    (sys : System) (base : Contents) (o : Options) (readings : Option Readings) (s : State) (held : Holds history snapshots capacity base o apps readings s) (line : List ℕ) (u : Option (List ℕ)) where
-  abbrev one : HoldsOne history snapshots capacity o a s
+module _ {R : Type 0} (history stable : R → Option (List Recording)) (settled : R → Bool) (law : (r : R) → settled r ≡ true → stable r ≡ history r) (snapshots : R → Option (List SnapshotOf)) (capacity : R → ℕ) (apps : List (Application R)) (distinct : AreDistinct (names_in apps)) (i : ℕ) (a b : Application R) (at : slice_get apps i ≡ Some a) (named : b.name ≡ a.name)
+    (sys : System) (base : Contents) (o : Options) (readings : Option Readings) (s : State) (held : Holds history settled snapshots capacity base o apps readings s) (line : List ℕ) (u : Option (List ℕ)) where
+  abbrev one : HoldsOne history settled snapshots capacity o a s
   one = held.each i a at
 
   -- what it answers, where it may hold so many events
@@ -102,39 +104,41 @@ module _ {R : Type 0} (history : R → Option (List Recording)) (snapshots : R �
 
   -- it gave a reply
   pub request_replied : (r : Request) (now : Option Readings) (told : Reply) (H : State → List Name → Type 0)
-      → app_asked r ≡ Some a.name → b.turns ≡ a.turns → b.used ≡ a.used → capacity b.recorder ≡ capacity a.recorder → Left r (Ok told) → Read r now
-      → ((next : State) → Holds history snapshots capacity base o (slice_set apps i b) now next → H next (prompted_by told a.name)) → Replies (terms (rules_of sys) o) s r told H
-  request_replied r now told H about turns used room leaves reading replied =
+      → app_asked r ≡ Some a.name → b.turns ≡ a.turns → b.used ≡ a.used → capacity b.recorder ≡ capacity a.recorder → (settled a.recorder ≡ true → settled b.recorder ≡ true) → Left r (Ok told) → Read r now
+      → ((next : State) → Holds history settled snapshots capacity base o (slice_set apps i b) now next → H next (prompted_by told a.name)) → Replies (terms (rules_of sys) o) s r told H
+  request_replied r now told H about turns used room settles leaves reading replied =
       line_answered sys o s a.name r about H told (history b.recorder) (snapshots b.recorder) (answered-as r (Ok told) leaves)
-      (λ next tells alike rs n. replied next (holds-set apps distinct i a b at named history snapshots capacity base o readings now s next held
+      (λ next tells alike stay rs n. replied next (holds-set apps distinct i a b at named history settled snapshots capacity base o readings now s next held
       (record {
         told = tells.recordings ∙ ap (λ m. Some (next.contents.histories m)) (sym named);
         told_snapshots = tells.snapshots ∙ ap (λ m. Some (next.contents.snapshots m)) (sym named);
+        whole = settles one.whole;
         room = room ∙ one.room;
         turns = turns ∙ one.turns;
         counted = used ∙ one.counted ∙ ap (λ (f : Name → ℕ). f a.name) (sym n) ∙ ap next.used (sym named);
       })
-      alike (λ m other. ap (λ (f : Name → ℕ). f m) n) (reading (s.contents.histories a.name) (s.contents.snapshots a.name) s.readings one.told one.told_snapshots held.clock ∙ ap Some (sym rs))))
+      alike (λ m other. ap (λ (f : Name → ℕ). f m) n) (reading (s.contents.histories a.name) (s.contents.snapshots a.name) s.readings one.told one.told_snapshots held.clock ∙ ap Some (sym rs)) (stay base.histories held.within)))
 
   -- what all applications keep, by what it keeps
-  kept-now : (c : Contents) → Tells (c.histories a.name) (c.snapshots a.name) (history b.recorder) (snapshots b.recorder) → AreAlikeBut a.name s.contents c → HoldContents history snapshots base (slice_set apps i b) c
-  kept-now c tells alike = contents-set apps distinct i a b at named history snapshots base s.contents c (held-contents history snapshots capacity base o apps readings s held) tells alike
+  kept-now : (settled a.recorder ≡ true → GrowsTold (history a.recorder) (stable b.recorder)) → (c : Contents) → Tells (c.histories a.name) (c.snapshots a.name) (history b.recorder) (snapshots b.recorder) → AreAlikeBut a.name s.contents c
+      → TrackFrom base.histories s.contents.histories c.histories → HoldContents history stable snapshots base (slice_set apps i b) c
+  kept-now grows c tells alike track = contents-set apps distinct i a b at named history stable settled law snapshots capacity base o readings s c held tells alike grows track
 
   -- it failed
-  pub request_failed : (r : Request) (f : RunFault) (H : State → List Name → Type 0) → request_in sys line ≡ asks r → app_asked r ≡ Some a.name → Left r (Err f)
-      → Answers (terms (rules_of sys) o) s line r H (HoldContents history snapshots base (slice_set apps i b)) u (Err f)
-  request_failed r f H asked about leaves =
+  pub request_failed : (r : Request) (f : RunFault) (H : State → List Name → Type 0) → request_in sys line ≡ asks r → app_asked r ≡ Some a.name → Left r (Err f) → (settled a.recorder ≡ true → GrowsTold (history a.recorder) (stable b.recorder))
+      → Answers (terms (rules_of sys) o) s line r H (HoldContents history stable snapshots base (slice_set apps i b)) u (Err f)
+  request_failed r f H asked about leaves grows =
       let c = s.contents in
-      line_failed sys o s a.name r about (HoldContents history snapshots base (slice_set apps i b)) line asked u (history b.recorder) (snapshots b.recorder)
-      (λ same. kept-now c same (alike-same a.name c))
-      (λ more ss tells. kept-now (added c a.name more ss)
+      line_failed sys o s a.name r about (HoldContents history stable snapshots base (slice_set apps i b)) line asked u (history b.recorder) (snapshots b.recorder)
+      (λ same. kept-now grows c same (alike-same a.name c) held.within)
+      (λ more ss commanded tells. kept-now grows (added c a.name more ss)
       (record {
         recordings = tells.recordings ∙ ap Some (sym (put-here c.histories a.name (c.histories a.name ++ more ∷ [])));
         snapshots = tells.snapshots ∙ ap Some (sym (put-here c.snapshots a.name (put_each (c.snapshots a.name) ss)));
       })
-      (alike-added a.name c more ss))
-      (λ sn tells. kept-now (snapped c a.name sn)
-      (record { recordings = tells.recordings; snapshots = tells.snapshots ∙ ap Some (sym (put-here c.snapshots a.name (put_snapshot (c.snapshots a.name) sn))) }) (alike-snapped a.name c sn))
+      (alike-added a.name c more ss) (track-commanded base.histories c.histories a.name more commanded held.within))
+      (λ sn tells. kept-now grows (snapped c a.name sn)
+      (record { recordings = tells.recordings; snapshots = tells.snapshots ∙ ap Some (sym (put-here c.snapshots a.name (put_snapshot (c.snapshots a.name) sn))) }) (alike-snapped a.name c sn) held.within)
       f (answered-as r (Err f) leaves)
 
 -- an application that has a class is declared

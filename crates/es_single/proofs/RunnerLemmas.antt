@@ -86,13 +86,13 @@ pub starved_drain : (t : Terms) (s : State) (H : State → Type 0) (L : Contents
 starved_drain t s H L prompted u result is held = subst (λ x. Drains t s H L prompted u x) (sym is) (cut_here t s prompted [] L u held)
 
 -- what holds of the applications that a runner lent holds of those that it has again
-module _ {R : Type 0} (history : R → Option (List Recording)) (snapshots : R → Option (List Snapshot)) (capacity : R → ℕ) (base : Contents) (o : Options) (t : Terms) (s : State) (runner : SingleRunner R) (lent : List (Application R)) (readings : Option Readings)
+module _ {R : Type 0} (history stable : R → Option (List Recording)) (settled : R → Bool) (snapshots : R → Option (List Snapshot)) (capacity : R → ℕ) (base : Contents) (o : Options) (t : Terms) (s : State) (runner : SingleRunner R) (lent : List (Application R)) (readings : Option Readings)
     (written : apps_of runner ≡ lent) where
-  holds-back : (next : State) → Holds history snapshots capacity base o lent readings next → Holds history snapshots capacity base o (apps_of runner) readings next
-  holds-back next held = subst (λ (xs : List (Application R)). Holds history snapshots capacity base o xs readings next) (sym written) held
+  holds-back : (next : State) → Holds history settled snapshots capacity base o lent readings next → Holds history settled snapshots capacity base o (apps_of runner) readings next
+  holds-back next held = subst (λ (xs : List (Application R)). Holds history settled snapshots capacity base o xs readings next) (sym written) held
 
-  drained-as : (prompted : List Name) (u : Option (List ℕ)) (L : Contents → Type 0) (result : Result (Unit {0}) RunFault) → OnOk result (runner.prompted.items ≡ []) → Drains t s (Holds history snapshots capacity base o lent readings) L prompted u result
-      → Drains t s (λ next. HoldsPrompted history snapshots capacity base o runner readings next []) L prompted u result
+  drained-as : (prompted : List Name) (u : Option (List ℕ)) (L : Contents → Type 0) (result : Result (Unit {0}) RunFault) → OnOk result (runner.prompted.items ≡ []) → Drains t s (Holds history settled snapshots capacity base o lent readings) L prompted u result
+      → Drains t s (λ next. HoldsPrompted history settled snapshots capacity base o runner readings next []) L prompted u result
   drained-as prompted u L (Ok y) none x = record {
     state = x.state;
     steps = x.steps;
@@ -103,14 +103,14 @@ module _ {R : Type 0} (history : R → Option (List Recording)) (snapshots : R �
   drained-as prompted u L (Err f) none x = x
 
   pub drained_back : (prompted : List Name) (u : Option (List ℕ)) (result : Result (Unit {0}) RunFault) → OnOk result (runner.prompted.items ≡ [])
-      → Drains t s (Holds history snapshots capacity base o lent readings) (HoldContents history snapshots base lent) prompted u result
-      → Drains t s (λ next. HoldsPrompted history snapshots capacity base o runner readings next []) (HoldContents history snapshots base (apps_of runner)) prompted u result
+      → Drains t s (Holds history settled snapshots capacity base o lent readings) (HoldContents history stable snapshots base lent) prompted u result
+      → Drains t s (λ next. HoldsPrompted history settled snapshots capacity base o runner readings next []) (HoldContents history stable snapshots base (apps_of runner)) prompted u result
   drained_back prompted u result none x =
-      subst (λ (xs : List (Application R)). Drains t s (λ next. HoldsPrompted history snapshots capacity base o runner readings next []) (HoldContents history snapshots base xs) prompted u result) (sym written)
-      (drained-as prompted u (HoldContents history snapshots base lent) result none x)
+      subst (λ (xs : List (Application R)). Drains t s (λ next. HoldsPrompted history settled snapshots capacity base o runner readings next []) (HoldContents history stable snapshots base xs) prompted u result) (sym written)
+      (drained-as prompted u (HoldContents history stable snapshots base lent) result none x)
 
   pub replied_back : (r : Request) (told : Reply) (names : List Name) (place : ℕ) → names_in lent ≡ names → runner.prompted.items ≡ prompted_by told place
-      → Replies t s r told (HoldsAfter (Holds history snapshots capacity base o lent readings) names (prompted_by told place)) → Replies t s r told (HoldsPrompted history snapshots capacity base o runner readings)
+      → Replies t s r told (HoldsAfter (Holds history settled snapshots capacity base o lent readings) names (prompted_by told place)) → Replies t s r told (HoldsPrompted history settled snapshots capacity base o runner readings)
   replied_back r told names place same queue x =
       let named : names_of runner ≡ names = ap (λ (xs : List (Application R)). names_in xs) written ∙ same in
       record {

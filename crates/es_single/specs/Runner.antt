@@ -1,5 +1,5 @@
 -- What a runner has, and what its calls leave.
-use Rattle.std.specs.Prelude.{◌≡◌, ℕ, List, [], Option}
+use Rattle.std.specs.Prelude.{◌≡◌, ℕ, Bool, List, [], Option}
 use Rattle.es_model.specs.declared.declaration.System.{System}
 use Rattle.es_model.specs.declared.event.Recording.{Recording}
 use Rattle.es_model.specs.declared.snapshot.Snapshot.{Snapshot}
@@ -37,6 +37,6 @@ pub record GoesOn {R : Type 0} (faults : R → ℕ) (old new : SingleRunner R) :
   pub applications : AllStay faults (apps_of old) (apps_of new)
 
 -- its applications and the clock tell this state, and these leaders are to be drained
-pub record HoldsPrompted {R : Type 0} (history : R → Option (List Recording)) (snapshots : R → Option (List Snapshot)) (capacity : R → ℕ) (base : Contents) (options : Options) (r : SingleRunner R) (readings : Option Readings) (s : State) (prompted : List Name) : Type 0 where
-  pub holds : Holds history snapshots capacity base options (apps_of r) readings s
+pub record HoldsPrompted {R : Type 0} (history : R → Option (List Recording)) (settled : R → Bool) (snapshots : R → Option (List Snapshot)) (capacity : R → ℕ) (base : Contents) (options : Options) (r : SingleRunner R) (readings : Option Readings) (s : State) (prompted : List Name) : Type 0 where
+  pub holds : Holds history settled snapshots capacity base options (apps_of r) readings s
   pub prompts : ArePrompted (names_of r) r.prompted.items prompted

@@ -144,8 +144,8 @@ fn answer_at<R: ProcessRecorder, C: Clock>(
     requires apps { AreApps sys.now (names_in apps.old) }
     requires asked { IsAskedAt sys.now (names_in apps.old) place request.now }
     ensures answered { Traced (C.readings clock.old) (C.readings clock.new) (λ before after. (base : Contents) (options : Options) (s : State) (line : List ℕ) (u : Option (List ℕ)) → request_in sys.now line ≡ asks request.now
-        → Holds R.history R.snapshots R.capacity base options apps.old before s
-        → Answers (terms (rules_of sys.now) options) s line request.now (HoldsAfter (Holds R.history R.snapshots R.capacity base options apps.new after) (names_in apps.old) (places_after result place)) (HoldContents R.history R.snapshots base apps.new) u result) }
+        → Holds R.history R.settled R.snapshots R.capacity base options apps.old before s
+        → Answers (terms (rules_of sys.now) options) s line request.now (HoldsAfter (Holds R.history R.settled R.snapshots R.capacity base options apps.new after) (names_in apps.old) (places_after result place)) (HoldContents R.history R.stable R.snapshots base apps.new) u result) }
     ensures faults { IfErr result MayFailToAdd }
     ensures same { AllStay R.faults apps.old apps.new }
     ensures failed { IsErrOf result RunFault.Recorder → SomeRose R.faults apps.old apps.new }
@@ -161,8 +161,8 @@ impl<R: ProcessRecorder> SingleRunner<R> {
     pub fn first<C: Clock>(&mut self, alloc: Global, clock: &mut C) -> Result<(), RunFault>
         requires apps { AreApps (system_of self.old) (names_of self.old) }
         requires none { self.old.prompted.items ≡ [] }
-        ensures drained { Traced (C.readings clock.old) (C.readings clock.new) (λ before after. (base : Contents) (options : Options) (s : State) (u : Option (List ℕ)) → Holds R.history R.snapshots R.capacity base options (apps_of self.old) before s
-            → Drains (terms (rules_of (system_of self.old)) options) s (λ next. HoldsPrompted R.history R.snapshots R.capacity base options self.new after next []) (HoldContents R.history R.snapshots base (apps_of self.new)) (leaders_in (pairs_of (system_of self.old).pipes)) u result) }
+        ensures drained { Traced (C.readings clock.old) (C.readings clock.new) (λ before after. (base : Contents) (options : Options) (s : State) (u : Option (List ℕ)) → Holds R.history R.settled R.snapshots R.capacity base options (apps_of self.old) before s
+            → Drains (terms (rules_of (system_of self.old)) options) s (λ next. HoldsPrompted R.history R.settled R.snapshots R.capacity base options self.new after next []) (HoldContents R.history R.stable R.snapshots base (apps_of self.new)) (leaders_in (pairs_of (system_of self.old).pipes)) u result) }
         ensures ready { OnOk result (IsReady self.new) }
         ensures same { GoesOn R.faults self.old self.new }
         ensures failed { IsErrOf result RunFault.Recorder → SomeRose R.faults (apps_of self.old) (apps_of self.new) }
@@ -182,8 +182,8 @@ impl<R: ProcessRecorder> SingleRunner<R> {
         requires ready { IsReady self.old }
         requires asked { IsAsked (system_of self.old) request.now }
         ensures answered { Traced (C.readings clock.old) (C.readings clock.new) (λ before after. (base : Contents) (options : Options) (s : State) (line : List ℕ) (u : Option (List ℕ)) → request_in (system_of self.old) line ≡ asks request.now
-            → HoldsPrompted R.history R.snapshots R.capacity base options self.old before s []
-            → Answers (terms (rules_of (system_of self.old)) options) s line request.now (HoldsPrompted R.history R.snapshots R.capacity base options self.new after) (HoldContents R.history R.snapshots base (apps_of self.new)) u result) }
+            → HoldsPrompted R.history R.settled R.snapshots R.capacity base options self.old before s []
+            → Answers (terms (rules_of (system_of self.old)) options) s line request.now (HoldsPrompted R.history R.settled R.snapshots R.capacity base options self.new after) (HoldContents R.history R.stable R.snapshots base (apps_of self.new)) u result) }
         ensures ready { OnOk result (IsReady self.new) }
         ensures faults { IfErr result MayFailToAdd }
         ensures same { GoesOn R.faults self.old self.new }
@@ -198,8 +198,8 @@ impl<R: ProcessRecorder> SingleRunner<R> {
     /// Drains from the application of the last accepted line, if one was accepted since the last drain.
     pub fn after<C: Clock>(&mut self, alloc: Global, clock: &mut C) -> Result<(), RunFault>
         requires ready { IsReady self.old }
-        ensures drained { Traced (C.readings clock.old) (C.readings clock.new) (λ before after. (base : Contents) (options : Options) (s : State) (prompted : List Name) (u : Option (List ℕ)) → HoldsPrompted R.history R.snapshots R.capacity base options self.old before s prompted
-            → Drains (terms (rules_of (system_of self.old)) options) s (λ next. HoldsPrompted R.history R.snapshots R.capacity base options self.new after next []) (HoldContents R.history R.snapshots base (apps_of self.new)) prompted u result) }
+        ensures drained { Traced (C.readings clock.old) (C.readings clock.new) (λ before after. (base : Contents) (options : Options) (s : State) (prompted : List Name) (u : Option (List ℕ)) → HoldsPrompted R.history R.settled R.snapshots R.capacity base options self.old before s prompted
+            → Drains (terms (rules_of (system_of self.old)) options) s (λ next. HoldsPrompted R.history R.settled R.snapshots R.capacity base options self.new after next []) (HoldContents R.history R.stable R.snapshots base (apps_of self.new)) prompted u result) }
         ensures ready { OnOk result (IsReady self.new) }
         ensures same { GoesOn R.faults self.old self.new }
         ensures failed { IsErrOf result RunFault.Recorder → SomeRose R.faults (apps_of self.old) (apps_of self.new) }
@@ -238,8 +238,8 @@ impl<R: ProcessRecorder> SingleRunner<R> {
         requires about { app_asked request.now ≡ Some app.now }
         requires asked { IsAsked (system_of self.old) request.now }
         ensures answered { Traced (C.readings clock.old) (C.readings clock.new) (λ before after. (base : Contents) (options : Options) (s : State) (line : List ℕ) (u : Option (List ℕ)) → request_in (system_of self.old) line ≡ asks request.now
-            → HoldsPrompted R.history R.snapshots R.capacity base options self.old before s []
-            → Answers (terms (rules_of (system_of self.old)) options) s line request.now (HoldsPrompted R.history R.snapshots R.capacity base options self.new after) (HoldContents R.history R.snapshots base (apps_of self.new)) u result) }
+            → HoldsPrompted R.history R.settled R.snapshots R.capacity base options self.old before s []
+            → Answers (terms (rules_of (system_of self.old)) options) s line request.now (HoldsPrompted R.history R.settled R.snapshots R.capacity base options self.new after) (HoldContents R.history R.stable R.snapshots base (apps_of self.new)) u result) }
         ensures ready { OnOk result (IsReady self.new) }
         ensures faults { IfErr result MayFailToAdd }
         ensures same { GoesOn R.faults self.old self.new }

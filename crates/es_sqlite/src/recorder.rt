@@ -133,11 +133,14 @@ impl<S: Alter> SqliteRecorder<S> {
 }
 
 impl<S: Alter> AggregateRecorder for SqliteRecorder<S> {
-    ghost use Rattle.std.specs.Prelude.{None};
+    ghost use Rattle.std.specs.Prelude.{None, true};
+    ghost use Rattle.std.proofs.Common.{refl};
 
     ghost history = { λ _. None };
 
     ghost stable = { λ _. None };
+
+    ghost settled = { λ _. true };
 
     ghost snapshots = { λ _. None };
 
@@ -150,6 +153,8 @@ impl<S: Alter> AggregateRecorder for SqliteRecorder<S> {
     ghost formed = { λ _. tt };
 
     ghost stable_is_front = { λ _. tt };
+
+    ghost settled_is_whole = { λ r settled. refl };
 
     ghost snapshots_once = { λ _. tt };
 

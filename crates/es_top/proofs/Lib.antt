@@ -8,5 +8,6 @@ pub mod LoopLemmas
 pub mod OpeningLemmas
 pub mod RunLemmas
 pub mod ServesLemmas
-pub mod StaysLemmas
+pub mod StableLemmas
+mod StaysLemmas
 pub mod TakenLemmas

@@ -3,7 +3,6 @@ use Rattle.std.proofs.Common.{◌≡◌, ◌⊎◌, ◌<◌, ◌≤◌, ◌+◌,
 use Rattle.std.proofs.lemmas.List.{map-append, length-map}
 use Rattle.std.proofs.lemmas.Option.{slice_get-get_or}
 use Rattle.std.proofs.Math.Seq.{drop-cons}
-use Rattle.std.specs.Str.{bytes_eq}
 use Rattle.es_model.specs.declared.declaration.App.{App}
 use Rattle.es_model.specs.declared.event.Recording.{Recording}
 use Rattle.es_model.specs.declared.snapshot.Snapshot.{Snapshot}
@@ -17,27 +16,16 @@ use Rattle.es_process.specs.Applications.{recorder_of}
 use Rattle.es_process.specs.Contents.{Contents}
 use Rattle.es_process.specs.SingleThread.{is_among}
 use Rattle.es_process.specs.Standing.{HoldsOne, Holds, AreDistinct, IsSame, names_in, faults_at, count_of}
-use Rattle.es_process.proofs.AmongLemmas.{among-contains, contains-among, contains-last, is-same, same-name, put-cases, put-here, put-other, same-or-not}
+use Rattle.es_process.proofs.AmongLemmas.{among-contains, contains-among, contains-last, is-same, put-cases, put-here, put-other, same-or-not}
 use Rattle.es_process.proofs.HoldsLemmas.{contains-at, name-at, same-one, later-then, later-set}
 use Rattle.es_process.proofs.SetLemmas.{get-cases, map-set}
 use Rattle.es_top.specs.Limits.{limits}
 use Rattle.es_top.specs.Runs.{state_of}
-use Rattle.es_top.specs.Opened.{marked, HoldElsewhere, TellEach, AreHandedOut, AreFresh, AreKept, ClosesEach, SomeFailed, IsUnused, AreOpened, IsFrontOfNames}
+use Rattle.es_top.specs.Opened.{marked, HoldElsewhere, TellEach, AreFronts, AreHandedOut, AreFresh, AreKept, ClosesEach, SomeFailed, IsUnused, AreOpened, IsFrontOfNames}
 use Rattle.es_top.specs.Top.{IsLeft, StoresTell}
+use Rattle.es_top.proofs.StableLemmas.{among_others, differ_false, fronts_more, fronts_none}
 
 -- names
-
-differ_false : (a b : Name) → (a ≡ b → ⊥) → bytes_eq a b ≡ false
-differ_false a b differ = by (bytes_eq a b) refl
-  where
-    by : (t : Bool) → bytes_eq a b ≡ t → t ≡ false
-    by true is = absurd (differ (same-name a b is))
-    by false is = refl
-
--- another name than the last is among some and the last where it is among them
-among_others : (names : List Name) (m n : Name) → (n ≡ m → ⊥) → is_among n (names ++ m ∷ []) ≡ is_among n names
-among_others [] m n differ = ap (λ b. b || false) (differ_false m n (λ same. differ (sym same)))
-among_others (x ∷ names) m n differ = ap (λ b. bytes_eq x n || b) (among_others names m n differ)
 
 -- something is put at a last name, or a first one
 marks_last : (out now : Name → Bool) (names : List Name) (m : Name) (v : Bool) (n : Name) → now n ≡ marked out names v n → put now m v n ≡ marked out (names ++ m ∷ []) v n
@@ -215,18 +203,18 @@ leave_all {A} {R} tell all left out held now none leaves = λ base q distinct ou
     let y = leaves base q distinct outs elsewhere tells others in
     y.told ∙ ap Some (λ i n. y.same n (ap (λ (l : List (Application R)). is_among n (names_in l)) (nil_of left none)) i)
 
-module _ {R : Type 0} (capacity faults : R → ℕ) where
+module _ {R : Type 0} (settled : R → Bool) (capacity faults : R → ℕ) where
   -- one more was opened
-  module _ (out middle : Name → Bool) (apps : List (Application R)) (a : Application R) (name : Name) (x : AreOpened capacity faults out middle apps) (named : a.name ≡ name) (was_in : middle name ≡ false) where
+  module _ (out middle : Name → Bool) (apps : List (Application R)) (a : Application R) (name : Name) (x : AreOpened settled capacity faults out middle apps) (named : a.name ≡ name) (was_in : middle name ≡ false) where
     own_was_in : middle a.name ≡ false
     own_was_in = ap middle named ∙ was_in
 
     apart : (is_among a.name (names_in apps) ≡ false) × (out a.name ≡ false)
     apart = unmarked (is_among a.name (names_in apps)) (out a.name) (sym (x.marks a.name) ∙ own_was_in)
 
-    pub opened_more : (last : Name → Bool) → IsUnused capacity faults a → ((n : Name) → last n ≡ put middle name true n) → AreOpened capacity faults out last (apps ++ a ∷ [])
+    pub opened_more : (last : Name → Bool) → IsUnused settled capacity faults a → ((n : Name) → last n ≡ put middle name true n) → AreOpened settled capacity faults out last (apps ++ a ∷ [])
     opened_more last unused marks = record {
-      each = get-push (IsUnused capacity faults) apps a x.each unused;
+      each = get-push (IsUnused settled capacity faults) apps a x.each unused;
       marks = λ n. marks n ∙ ap (λ m. put middle m true n) (sym named) ∙ marks_last out middle (names_in apps) a.name true n (x.marks n) ∙ ap (λ (names : List Name). marked out names true n) (sym (names_last apps a));
       were_in = λ n there. by n (ap (is_among n) (sym (names_last apps a)) ∙ there) (same-or-not n a.name);
     }
@@ -245,20 +233,22 @@ module _ {R : Type 0} (capacity faults : R → ℕ) where
     }
 
   -- all were opened
-  module _ (out last : Name → Bool) (apps : List (Application R)) (x : AreOpened capacity faults out last apps) where
+  module _ (out last : Name → Bool) (apps : List (Application R)) (x : AreOpened settled capacity faults out last apps) where
     pub opened_holds : (history : R → Option (List Recording)) (snapshots : R → Option (List Snapshot)) (held now : Option Histories) (kept kept_now : Option (Name → List Snapshot)) → AreHandedOut history held now apps → AreHandedOut snapshots kept kept_now apps
-        → (readings : Option Readings) (r : Readings) (opening : Contents) → readings ≡ Some r → StoresTell opening held kept → Holds history snapshots capacity opening limits apps readings (state_of opening r)
+        → (readings : Option Readings) (r : Readings) (opening : Contents) → readings ≡ Some r → StoresTell opening held kept → Holds history settled snapshots capacity opening limits apps readings (state_of opening r)
     opened_holds history snapshots held now kept kept_now y z readings r opening reads stores = record {
       each = λ i a at.
           let one = x.each i a at in
           record {
             told = y.each opening.histories stores.histories i a at;
             told_snapshots = z.each opening.snapshots stores.snapshots i a at;
+            whole = one.whole;
             room = one.room;
             turns = one.turns;
             counted = one.unused;
           };
       clock = reads;
+      within = λ leader follower differ was. was;
       elsewhere = record { histories = λ n none. refl; snapshots = λ n none. refl };
     }
 
@@ -269,7 +259,7 @@ module _ {R : Type 0} (capacity faults : R → ℕ) where
         by None at = refl
         by (Some a) at = (x.each i a at).fresh
 
-    marked_out : (n : Name) → is_among n (names_in apps) ≡ true → last n ≡ true
+    pub marked_out : (n : Name) → is_among n (names_in apps) ≡ true → last n ≡ true
     marked_out n there = x.marks n ∙ (λ i. if there i then true else out n)
 
     -- and closed again
@@ -280,9 +270,9 @@ module _ {R : Type 0} (capacity faults : R → ℕ) where
         by None known = tt
         by (Some q) known = closed q q distinct marked_out (y.elsewhere q known) (y.each q known) (λ n none. refl)
 
-module _ {R : Type 0} (history : R → Option (List Recording)) (snapshots : R → Option (List Snapshot)) (faults : R → ℕ) where
+module _ {R : Type 0} (history stable : R → Option (List Recording)) (snapshots : R → Option (List Snapshot)) (faults : R → ℕ) where
   -- some of all were closed, the last ones first
-  pub record Closing (all left : List (Application R)) (held now : Option Histories) (kept kept_now : Option (Name → List Snapshot)) (out last : Name → Bool) (before after : ℕ) : Type 0 where
+  pub record Closing (all left : List (Application R)) (held now front front_now : Option Histories) (kept kept_now : Option (Name → List Snapshot)) (out last : Name → Bool) (before after : ℕ) : Type 0 where
     pub closed : List (Application R)
     pub parts : all ≡ left ++ closed
     pub marks : (n : Name) → last n ≡ marked out (names_in closed) false n
@@ -290,9 +280,10 @@ module _ {R : Type 0} (history : R → Option (List Recording)) (snapshots : R �
     pub risen : SomeFailed faults closed → Rose before after
     pub holds : LeaveOpen history all left out held now
     pub keeps : LeaveOpen snapshots all left out kept kept_now
+    pub fronts : (base : Histories) → AreDistinct (names_in all) → ((n : Name) → is_among n (names_in all) ≡ true → out n ≡ true) → front ≡ Some base → AreFronts stable closed base front_now
 
-  pub closing_none : (all : List (Application R)) (held : Option Histories) (kept : Option (Name → List Snapshot)) (out : Name → Bool) (before : ℕ) → Closing all all held held kept kept out out before before
-  closing_none all held kept out before = record {
+  pub closing_none : (all : List (Application R)) (held front : Option Histories) (kept : Option (Name → List Snapshot)) (out : Name → Bool) (before : ℕ) → Closing all all held held front front kept kept out out before before
+  closing_none all held front kept out before = record {
     closed = [];
     parts = sym (append-nil all);
     marks = λ n. refl;
@@ -300,10 +291,11 @@ module _ {R : Type 0} (history : R → Option (List Recording)) (snapshots : R �
     risen = λ some. absurd (let none : 0 < 0 = some.1 in omega (arith, none));
     holds = leave_none history all out held;
     keeps = leave_none snapshots all out kept;
+    fronts = λ base distinct outs told. fronts_none stable base front told;
   }
 
-  module _ (all left rest : List (Application R)) (a : Application R) (held mid : Option Histories) (kept kept_mid : Option (Name → List Snapshot)) (out middle : Name → Bool) (before count : ℕ)
-      (x : Closing all left held mid kept kept_mid out middle before count) (is : left ≡ rest ++ a ∷ []) where
+  module _ (all left rest : List (Application R)) (a : Application R) (held mid front front_mid : Option Histories) (kept kept_mid : Option (Name → List Snapshot)) (out middle : Name → Bool) (before count : ℕ)
+      (x : Closing all left held mid front front_mid kept kept_mid out middle before count) (is : left ≡ rest ++ a ∷ []) where
     parted : all ≡ rest ++ a ∷ x.closed
     parted = x.parts ∙ ap (λ (l : List (Application R)). l ++ x.closed) is ∙ append_assoc rest (a ∷ []) x.closed
 
@@ -330,9 +322,10 @@ module _ {R : Type 0} (history : R → Option (List Recording)) (snapshots : R �
               (λ differ. y.same n (ap (λ (l : List (Application R)). is_among n (names_in l)) is ∙ ap (is_among n) (names_last rest a) ∙ among_others (names_in rest) a.name n differ ∙ none));
         }
 
-    pub closing_more : (now : Option Histories) (kept_now : Option (Name → List Snapshot)) (last : Name → Bool) (after : ℕ) → ClosesTold (middle a.name) mid a.name (history (recorder_of a)) now → ClosesTold (middle a.name) kept_mid a.name (snapshots (recorder_of a)) kept_now
-        → ((n : Name) → last n ≡ put middle a.name false n) → count ≤ after → (0 < faults (recorder_of a) → Rose count after) → Closing all rest held now kept kept_now out last before after
-    closing_more now kept_now last after closes keeps again later risen = record {
+    pub closing_more : (now front_now : Option Histories) (kept_now : Option (Name → List Snapshot)) (last : Name → Bool) (after : ℕ) → ClosesTold (middle a.name) mid a.name (history (recorder_of a)) now → ClosesTold (middle a.name) kept_mid a.name (snapshots (recorder_of a)) kept_now
+        → ClosesTold (middle a.name) front_mid a.name (stable (recorder_of a)) front_now → ((n : Name) → last n ≡ put middle a.name false n) → count ≤ after → (0 < faults (recorder_of a) → Rose count after)
+        → Closing all rest held now front front_now kept kept_now out last before after
+    closing_more now front_now kept_now last after closes keeps settles again later risen = record {
       closed = a ∷ x.closed;
       parts = parted;
       marks = λ n. again n ∙ marks_first out middle (names_in x.closed) a.name false n (x.marks n);
@@ -340,27 +333,29 @@ module _ {R : Type 0} (history : R → Option (List Recording)) (snapshots : R �
       risen = λ some. rises some.0 some.1;
       holds = leave_more history held mid now x.holds closes;
       keeps = leave_more snapshots kept kept_mid kept_now x.keeps keeps;
+      fronts = λ base distinct outs told. fronts_more stable a x.closed base front_mid front_now (middle a.name) (still_out distinct outs) (not_closed distinct) (x.fronts base distinct outs told) settles;
     }
       where
         rises : (i : ℕ) → 0 < faults_at faults (a ∷ x.closed) i → Rose before after
         rises zero some = omega (arith, x.later, risen some)
         rises (suc i) some = omega (arith, x.risen (i, some), later)
 
-module _ {R : Type 0} (history : R → Option (List Recording)) (capacity : R → ℕ) (snapshots : R → Option (List Snapshot)) (faults : R → ℕ) where
+module _ {R : Type 0} (history : R → Option (List Recording)) (settled : R → Bool) (capacity : R → ℕ) (snapshots : R → Option (List Snapshot)) (faults : R → ℕ) where
   -- where one of them is the same they tell the same
   tells_set : {A : Type 0} (tell : R → Option A) (q : Name → A) (mid : List (Application R)) (i : ℕ) (a b : Application R) → slice_get mid i ≡ Some a → b.name ≡ a.name → tell (recorder_of b) ≡ tell (recorder_of a) → TellEach tell q mid → TellEach tell q (slice_set mid i b)
   tells_set tell q mid i a b at named same tells = λ j c there.
       get-cases (λ (y : Application R). tell (recorder_of y) ≡ Some (q y.name)) mid i j b a c at there (same ∙ tells i a at ∙ ap (λ n. Some (q n)) (sym named)) (λ other was. tells j c was)
 
-  pub kept_more : (old mid : List (Application R)) (i : ℕ) (a b : Application R) → AreKept history capacity snapshots faults old mid → slice_get mid i ≡ Some a → IsSame history capacity snapshots faults a b → AreKept history capacity snapshots faults old (slice_set mid i b)
+  pub kept_more : (old mid : List (Application R)) (i : ℕ) (a b : Application R) → AreKept history settled capacity snapshots faults old mid → slice_get mid i ≡ Some a → IsSame history settled capacity snapshots faults a b → AreKept history settled capacity snapshots faults old (slice_set mid i b)
   kept_more old mid i a b x at same =
       let kept : names_in (slice_set mid i b) ≡ names_in mid = map-set (λ (c : Application R). c.name) mid i b a at same.stays.name in
       record {
         holds = λ base options readings s first.
             let held = x.holds base options readings s first in
             record {
-              each = λ j c there. get-cases (λ (y : Application R). HoldsOne history snapshots capacity options y s) mid i j b a c at there (same-one history snapshots capacity options a b s same (held.each i a at)) (λ other was. held.each j c was);
+              each = λ j c there. get-cases (λ (y : Application R). HoldsOne history settled snapshots capacity options y s) mid i j b a c at there (same-one history settled snapshots capacity options a b s same (held.each i a at)) (λ other was. held.each j c was);
               clock = held.clock;
+              within = held.within;
               elsewhere = record {
                 histories = λ n none. held.elsewhere.histories n (ap (is_among n) (sym kept) ∙ none);
                 snapshots = λ n none. held.elsewhere.snapshots n (ap (is_among n) (sym kept) ∙ none);
@@ -377,6 +372,6 @@ module _ {R : Type 0} (history : R → Option (List Recording)) (capacity : R �
       }
 
   -- what one of them holds
-  pub told_at : (h : Histories) (old mid : List (Application R)) (i : ℕ) (a : Application R) → AreKept history capacity snapshots faults old mid → TellEach history h old → slice_get mid i ≡ Some a
+  pub told_at : (h : Histories) (old mid : List (Application R)) (i : ℕ) (a : Application R) → AreKept history settled capacity snapshots faults old mid → TellEach history h old → slice_get mid i ≡ Some a
       → (history (recorder_of a) ≡ Some (h a.name)) × (slice_get (names_in old) i ≡ Some a.name)
   told_at h old mid i a x tells at = (x.tells.told h tells i a at, ap (λ (names : List Name). slice_get names i) (sym x.stay.names) ∙ name-at mid i a at)

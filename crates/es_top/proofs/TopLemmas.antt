@@ -92,9 +92,9 @@ running_result (Ok e) so = running_sort e so
 running_result (Err f) so = tt
 
 -- what is held of a state tells the histories
-pub held_histories : {R : Type 0} (history : R → Option (List Recording)) (snapshots : R → Option (List Snapshot)) (capacity : R → ℕ) (base : Contents) (o : Options) (apps : List (Application R)) (readings : Option Readings) (s : State)
-    → Holds history snapshots capacity base o apps readings s → TellEach history s.contents.histories apps
-held_histories history snapshots capacity base o apps readings s held = λ i a at. (held.each i a at).told
+pub held_histories : {R : Type 0} (history : R → Option (List Recording)) (settled : R → Bool) (snapshots : R → Option (List Snapshot)) (capacity : R → ℕ) (base : Contents) (o : Options) (apps : List (Application R)) (readings : Option Readings) (s : State)
+    → Holds history settled snapshots capacity base o apps readings s → TellEach history s.contents.histories apps
+held_histories history settled snapshots capacity base o apps readings s held = λ i a at. (held.each i a at).told
 
 -- what is held, in other words
 abbrev made_held : (sys : System) (i : List ℕ) (r : Readings) (h : Contents) (left now : Contents → Type 0) (u w : Option (List ℕ)) → ((k : Contents) → left k → now k) → (tail : List ℕ) → Made sys i r h left u w tail → Made sys i r h now u w tail
@@ -105,6 +105,11 @@ pub stands_held : (sys : System) (i : List ℕ) (rest_of : List ℕ) (r : Readin
 stands_held sys i rest_of r h left now u w closed (Ok e) x = (made_held sys i r h left now u w closed [] x.0, x.1)
 stands_held sys i rest_of r h left now u w closed (Err f) x = (x.0, made_held sys i r h left now u w closed x.0 x.1, x.2)
 
+-- something is held
+pub stands_some : (sys : System) (i rest_of : List ℕ) (r : Readings) (h : Contents) (left : Contents → Type 0) (u w : Option (List ℕ)) (result : Result End Failed) → Stands sys i rest_of r h left u w result → (c : Contents) × left c
+stands_some sys i rest_of r h left u w (Ok e) x = (left_by x.0.done h, x.0.held)
+stands_some sys i rest_of r h left u w (Err f) x = (left_by x.1.done h, x.1.held)
+
 left_is : {A : Type 0} (h : Name → A) (held new : Option (Name → A)) → held ≡ Some h → IsLeft held new → new ≡ Some h
 left_is h held new told left = subst (λ o. IsLeft o new) told left
 
@@ -112,7 +117,7 @@ left_is h held new told left = subst (λ o. IsLeft o new) told left
 pub still_told : (opening : Contents) (held new : Option Histories) (kept now : Option (Name → List Snapshot)) → StoresTell opening held kept → IsLeft held new → IsLeft kept now → StoresTell opening new now
 still_told opening held new kept now told left still = record { histories = left_is opening.histories held new told.histories left; snapshots = left_is opening.snapshots kept now told.snapshots still }
 
-marked_out : (names : List Name) (before out : Name → Bool) (n : Name) → out n ≡ marked before names true n → is_among n names ≡ true → out n ≡ true
+pub marked_out : (names : List Name) (before out : Name → Bool) (n : Name) → out n ≡ marked before names true n → is_among n names ≡ true → out n ≡ true
 marked_out names before out n is there = is ∙ (λ i. if there i then true else before n)
 
 -- what applications tell that were opened, and are closed, is what the stores hold then

@@ -1,5 +1,5 @@
 -- What the top call promises.
-use Rattle.std.specs.Prelude.{◌≡◌, ◌⊎◌, ℕ, List, [], ◌++◌, length, Option, Some, None, Ok}
+use Rattle.std.specs.Prelude.{◌≡◌, ◌⊎◌, ◌≤◌, ℕ, List, [], ◌++◌, length, Contains, Option, Some, None, Ok}
 use Rattle.std.specs.declared.alloc.Global.{Global}
 use Rattle.std.specs.Prelude.{String}
 use Rattle.std.specs.Io.KnownBytes.{Appends}
@@ -15,7 +15,7 @@ use Rattle.es_lines.specs.Texts.{end_text}
 use Rattle.es_process.specs.declared.ahead.Ahead.{Ahead}
 use Rattle.es_process.specs.Consistent.{IsConsistent}
 use Rattle.es_process.specs.Contents.{Contents}
-use Rattle.es_process.specs.Reached.{IsReached}
+use Rattle.es_process.specs.Reached.{IsReached, tracked_of, last_of}
 use Rattle.es_process.specs.Session.{IsSession, writes_in}
 use Rattle.es_process.specs.SingleThread.{Step, Run, added_counts, left_by, written_by, as_line}
 use Rattle.es_process.specs.Standing.{IsFrontOf}
@@ -84,6 +84,22 @@ pub record LeavesConsistent (sys : System) (openings : Histories) (held : Option
   pub histories : Histories
   pub stores : held ≡ Some histories
   pub consistent : IsConsistent (rules_of sys) openings histories
+
+-- the follower of each pair tracks no more than what is stable of its leader has
+abbrev pub AreWithin : List (Name × Name) → Histories → Histories → Type 0
+AreWithin pairs histories stable = (p : Name × Name) → Contains pairs p → tracked_of histories p ≤ last_of stable p
+
+-- the stores tell histories of which this holds, and what is stable of them
+pub record LeaveWithin (pairs : List (Name × Name)) (held stable : Option Histories) : Type 0 where
+  pub histories : Histories
+  pub fronts : Histories
+  pub stores : held ≡ Some histories
+  pub surely : stable ≡ Some fronts
+  pub within : AreWithin pairs histories fronts
+
+-- where no follower tracked more than what was stable of its leader had, none does so now; stated of what the stores held, what of it was stable and their snapshots, and of what they hold now
+abbrev pub Restarts : List (Name × Name) → Option Histories → Option Histories → Option (Name → List Snapshot) → Option Histories → Option Histories → Type 0
+Restarts pairs held stable kept held_now stable_now = (opening : Contents) (fronts : Histories) → StoresTell opening held kept → stable ≡ Some fronts → AreWithin pairs opening.histories fronts → LeaveWithin pairs held_now stable_now
 
 -- where a follower is ahead of its leader at the opening the status is that end, with this pair and both numbers, or that of want of memory, or of a document, a sink or a recorder that failed; and where none is ahead it isn't that end
 abbrev pub AheadExactly : Option Ahead → Status → Type 0

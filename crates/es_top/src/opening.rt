@@ -12,7 +12,7 @@ ghost use Rattle.es_process.specs.Standing.{Holds, AreDistinct, names_in};
 ghost use Rattle.es_process.specs.SystemRules.{app_names};
 ghost use Rattle.es_top.specs.Limits.{limits};
 ghost use Rattle.es_top.specs.Runs.{state_of};
-ghost use Rattle.es_top.specs.Opened.{AreOpened, AreHandedOut, ClosesEach, IsFrontOfNames, marked, HoldElsewhere, TellEach, AreFresh, IsUnused, SomeFailed};
+ghost use Rattle.es_top.specs.Opened.{AreOpened, AreHandedOut, ClosesEach, ClosesFronts, GrowsBut, GrowsEach, IsFrontOfNames, marked, HoldElsewhere, TellEach, AreFresh, IsUnused, SomeFailed};
 ghost use Rattle.es_top.specs.Top.{IsLeft, StoresTell};
 
 use es_model::limits::{DEFAULT_TURNS, MOST_CAPACITY};
@@ -31,6 +31,7 @@ fn begin_application<M: Stores>(
     ensures still { OnOk result (stores.new ≡ stores.old) }
     ensures closed { OnErr result (ClosesTold (M.out stores.old name.now) (M.held stores.old) name.now (M.R.history recorder) (M.held stores.new)) }
     ensures closed_snapshots { OnErr result (ClosesTold (M.out stores.old name.now) (M.snapshots stores.old) name.now (M.R.snapshots recorder) (M.snapshots stores.new)) }
+    ensures closed_stable { OnErr result (ClosesTold (M.out stores.old name.now) (M.stable stores.old) name.now (M.R.stable recorder) (M.stable stores.new)) }
     ensures in_again { OnErr result ((other : Name) → M.out stores.new other ≡ put (M.out stores.old) name.now false other) }
     ensures later { M.faults stores.old ≤ M.faults stores.new }
 {
@@ -48,13 +49,15 @@ fn open_application<M: Stores>(stores: &mut M, name: &Text) -> Result<Applicatio
     ensures named { IfOk result (λ app. name_of app ≡ name.now) }
     ensures opened { IfSome (M.held stores.old) (λ h. IfOk result (λ app. M.R.history (recorder_of app) ≡ Some (h name.now))) }
     ensures opened_snapshots { IfSome (M.snapshots stores.old) (λ q. IfOk result (λ app. M.R.snapshots (recorder_of app) ≡ Some (q name.now))) }
-    ensures limited { IfOk result (IsUnused M.R.capacity M.R.faults) }
+    ensures limited { IfOk result (IsUnused M.R.settled M.R.capacity M.R.faults) }
     ensures out { OnOk result ((other : Name) → M.out stores.new other ≡ put (M.out stores.old) name.now true other) }
     ensures was_in { OnOk result (M.out stores.old name.now ≡ false) }
     ensures others { OnOk result (SameElsewhere name.now (M.held stores.old) (M.held stores.new)) }
     ensures other_snapshots { OnOk result (SameElsewhere name.now (M.snapshots stores.old) (M.snapshots stores.new)) }
+    ensures other_stable { OnOk result (SameElsewhere name.now (M.stable stores.old) (M.stable stores.new)) }
     ensures refused { OnErr result (IsLeft (M.held stores.old) (M.held stores.new)) }
     ensures refused_snapshots { OnErr result (IsLeft (M.snapshots stores.old) (M.snapshots stores.new)) }
+    ensures refused_stable { OnErr result (GrowsEach (M.held stores.old) (M.stable stores.old) (M.stable stores.new)) }
     ensures still { OnErr result ((other : Name) → M.out stores.new other ≡ M.out stores.old other) }
     ensures cause { CallHasCause (M.faults stores.old) (M.faults stores.new) result }
 {
@@ -72,6 +75,7 @@ fn close_application<M: Stores>(stores: &mut M, name: &Text, app: Application<M:
     requires { name.now ≡ name_of app }
     ensures closed { ClosesTold (M.out stores.old (name_of app)) (M.held stores.old) (name_of app) (M.R.history (recorder_of app)) (M.held stores.new) }
     ensures closed_snapshots { ClosesTold (M.out stores.old (name_of app)) (M.snapshots stores.old) (name_of app) (M.R.snapshots (recorder_of app)) (M.snapshots stores.new) }
+    ensures closed_stable { ClosesTold (M.out stores.old (name_of app)) (M.stable stores.old) (name_of app) (M.R.stable (recorder_of app)) (M.stable stores.new) }
     ensures in_again { (other : Name) → M.out stores.new other ≡ put (M.out stores.old) (name_of app) false other }
     ensures later { M.faults stores.old ≤ M.faults stores.new }
     ensures risen { 0 < M.R.faults (recorder_of app) → Rose (M.faults stores.old) (M.faults stores.new) }
@@ -87,9 +91,10 @@ fn open_each<M: Stores>(
 ) -> Result<(), CallFault>
     requires empty { opened.old.items ≡ [] }
     requires room { length apps.now ≤ vec_capacity opened.old }
-    ensures opened { AreOpened M.R.capacity M.R.faults (M.out stores.old) (M.out stores.new) opened.new.items }
+    ensures opened { AreOpened M.R.settled M.R.capacity M.R.faults (M.out stores.old) (M.out stores.new) opened.new.items }
     ensures histories { AreHandedOut M.R.history (M.held stores.old) (M.held stores.new) opened.new.items }
     ensures snapshots { AreHandedOut M.R.snapshots (M.snapshots stores.old) (M.snapshots stores.new) opened.new.items }
+    ensures stable { GrowsBut (names_in opened.new.items) (M.held stores.old) (M.stable stores.old) (M.stable stores.new) }
     ensures front { IsFrontOfNames (names_in opened.new.items) (map (λ a. a.name) apps.now) }
     ensures named { OnOk result (names_in opened.new.items ≡ map (λ a. a.name) apps.now) }
     ensures later { M.faults stores.old ≤ M.faults stores.new }
@@ -110,7 +115,7 @@ pub fn open_all<M: Stores>(
     sys: &System,
 ) -> Result<Vec<Application<M::R>>, CallFault>
     requires { AreDistinct (app_names sys.now) }
-    ensures opened { (readings : Option Readings) (r : Readings) (opening : Contents) → readings ≡ Some r → StoresTell opening (M.held stores.old) (M.snapshots stores.old) → IfOk result (λ apps. Holds M.R.history M.R.snapshots M.R.capacity opening limits apps.items readings (state_of opening r)) }
+    ensures opened { (readings : Option Readings) (r : Readings) (opening : Contents) → readings ≡ Some r → StoresTell opening (M.held stores.old) (M.snapshots stores.old) → IfOk result (λ apps. Holds M.R.history M.R.settled M.R.snapshots M.R.capacity opening limits apps.items readings (state_of opening r)) }
     ensures histories { (h : Histories) → M.held stores.old ≡ Some h → IfOk result (λ apps. TellEach M.R.history h apps.items) }
     ensures snapshots { (q : Name → List Snapshot) → M.snapshots stores.old ≡ Some q → IfOk result (λ apps. TellEach M.R.snapshots q apps.items) }
     ensures named { IfOk result (λ apps. names_in apps.items ≡ app_names sys.now) }
@@ -119,8 +124,10 @@ pub fn open_all<M: Stores>(
     ensures were_in { OnOk result ((n : Name) → is_among n (app_names sys.now) ≡ true → M.out stores.old n ≡ false) }
     ensures elsewhere { OnOk result ((h : Histories) → M.held stores.old ≡ Some h → HoldElsewhere (app_names sys.now) h (M.held stores.new)) }
     ensures elsewhere_snapshots { OnOk result ((q : Name → List Snapshot) → M.snapshots stores.old ≡ Some q → HoldElsewhere (app_names sys.now) q (M.snapshots stores.new)) }
+    ensures elsewhere_stable { OnOk result (GrowsBut (app_names sys.now) (M.held stores.old) (M.stable stores.old) (M.stable stores.new)) }
     ensures refused { OnErr result (IsLeft (M.held stores.old) (M.held stores.new)) }
     ensures refused_snapshots { OnErr result (IsLeft (M.snapshots stores.old) (M.snapshots stores.new)) }
+    ensures refused_stable { OnErr result (GrowsEach (M.held stores.old) (M.stable stores.old) (M.stable stores.new)) }
     ensures still { OnErr result ((n : Name) → M.out stores.new n ≡ M.out stores.old n) }
     ensures cause { CallHasCause (M.faults stores.old) (M.faults stores.new) result }
 {
@@ -141,6 +148,7 @@ pub fn close_all<M: Stores>(stores: &mut M, declared: &[App], mut apps: Vec<Appl
     requires front { IsFrontOfNames (names_in apps.items) (map (λ a. a.name) declared.now) }
     ensures closed { ClosesEach M.R.history apps.items (M.out stores.old) (M.held stores.old) (M.held stores.new) }
     ensures closed_snapshots { ClosesEach M.R.snapshots apps.items (M.out stores.old) (M.snapshots stores.old) (M.snapshots stores.new) }
+    ensures closed_stable { ClosesFronts M.R.stable apps.items (M.out stores.old) (M.stable stores.old) (M.stable stores.new) }
     ensures in_again { (n : Name) → M.out stores.new n ≡ marked (M.out stores.old) (names_in apps.items) false n }
     ensures later { M.faults stores.old ≤ M.faults stores.new }
     ensures risen { SomeFailed M.R.faults apps.items → Rose (M.faults stores.old) (M.faults stores.new) }

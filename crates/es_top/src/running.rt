@@ -1,4 +1,4 @@
-ghost use Rattle.std.specs.Prelude.{◌≡◌, ◌⊎◌, ◌≤◌, ◌<◌, ◌^◌, ◌+◌, ◌-◌, [], ◌∷◌, ◌++◌, List, Option, Some, None, Ok, IfOk, IfErr, IsErrOf, OnOk, OnErr, length};
+ghost use Rattle.std.specs.Prelude.{◌≡◌, ◌⊎◌, ◌≤◌, ◌<◌, ◌^◌, ◌+◌, ◌-◌, [], ◌∷◌, ◌++◌, ℕ, List, Option, Some, None, Ok, IfOk, IfErr, IsErrOf, OnOk, OnErr, length};
 ghost use Rattle.es_model.specs.declared.event.Recording.{Recording};
 ghost use Rattle.es_model.specs.Causes.{CallHasCause, Rose};
 ghost use Rattle.es_model.specs.History.{Histories};
@@ -11,7 +11,7 @@ ghost use Rattle.es_process.specs.Drains.{AreApps};
 ghost use Rattle.es_process.specs.Faults.{end_of};
 ghost use Rattle.es_process.specs.Reached.{ahead};
 ghost use Rattle.es_process.specs.SingleThread.{ahead_end};
-ghost use Rattle.es_process.specs.Standing.{Holds, HoldContents, AllStay, SomeRose, names_in, AreDistinct, IsSame, MayFailToRead};
+ghost use Rattle.es_process.specs.Standing.{Holds, HoldContents, HasStable, AllStay, SomeRose, names_in, AreDistinct, IsSame, MayFailToRead};
 ghost use Rattle.es_process.specs.SystemRules.{in_order, rules_of};
 ghost use Rattle.es_top.specs.inner.Begins.{AheadEnd, IsUnbegunEnd};
 ghost use Rattle.es_top.specs.inner.Counts.{CountsTold, EndsBy, IsCounted, lengths, more_than};
@@ -67,7 +67,7 @@ fn push_count<R: ProcessRecorder>(
 ) -> Result<(), CallFault>
     ensures counted { (h : List Recording) → R.history (recorder_of app.old) ≡ Some h → OnOk result (counts.new.items ≡ counts.old.items ++ length h ∷ []) }
     ensures one { OnOk result (length counts.new.items ≡ length counts.old.items + 1) }
-    ensures same { IsSame R.history R.capacity R.snapshots R.faults app.old app.new }
+    ensures same { IsSame R.history R.settled R.capacity R.snapshots R.faults app.old app.new }
     ensures cause { CallHasCause (R.faults (recorder_of app.old)) (R.faults (recorder_of app.new)) result }
 {
     let number = app.recordings()?;
@@ -86,7 +86,7 @@ fn count_first<R: ProcessRecorder>(
     ensures each { IfOk result (λ counts. length counts.items ≡ length apps.old) }
     ensures silent { (found : Option AheadOf) → IfErr result (AheadEnd found) }
     ensures unbegun { IfErr result IsUnbegunEnd }
-    ensures kept { AreKept R.history R.capacity R.snapshots R.faults apps.old apps.new }
+    ensures kept { AreKept R.history R.settled R.capacity R.snapshots R.faults apps.old apps.new }
     ensures recorder { IsErrOf result End.Recorder → SomeRose R.faults apps.old apps.new }
 {
     let mut counts = Vec::new(alloc);
@@ -107,12 +107,12 @@ fn begin<R: ProcessRecorder>(
     apps: &mut [Application<R>],
 ) -> Result<Vec<u64>, End>
     requires { AreApps sys.now (names_in apps.old) }
-    ensures begun { (opening : Contents) (r : Readings) → Holds R.history R.snapshots R.capacity opening limits apps.old (Some r) (state_of opening r)
+    ensures begun { (opening : Contents) (r : Readings) → Holds R.history R.settled R.snapshots R.capacity opening limits apps.old (Some r) (state_of opening r)
         → IfOk result (λ counts. (ahead (rules_of sys.now).pairs opening.histories ≡ None) × (counts.items ≡ lengths opening.histories (names_in apps.old))) }
-    ensures ended { (opening : Contents) (r : Readings) → Holds R.history R.snapshots R.capacity opening limits apps.old (Some r) (state_of opening r) → IfErr result (AheadEnd (ahead (rules_of sys.now).pairs opening.histories)) }
+    ensures ended { (opening : Contents) (r : Readings) → Holds R.history R.settled R.snapshots R.capacity opening limits apps.old (Some r) (state_of opening r) → IfErr result (AheadEnd (ahead (rules_of sys.now).pairs opening.histories)) }
     ensures each { IfOk result (λ counts. length counts.items ≡ length apps.old) }
     ensures unbegun { IfErr result IsUnbegunEnd }
-    ensures holds { (opening : Contents) (r : Readings) → Holds R.history R.snapshots R.capacity opening limits apps.old (Some r) (state_of opening r) → Holds R.history R.snapshots R.capacity opening limits apps.new (Some r) (state_of opening r) }
+    ensures holds { (opening : Contents) (r : Readings) → Holds R.history R.settled R.snapshots R.capacity opening limits apps.old (Some r) (state_of opening r) → Holds R.history R.settled R.snapshots R.capacity opening limits apps.new (Some r) (state_of opening r) }
     ensures same { AllStay R.faults apps.old apps.new }
     ensures recorder { IsErrOf result End.Recorder → SomeRose R.faults apps.old apps.new }
 {
@@ -131,7 +131,8 @@ fn count_one<R: ProcessRecorder>(
 ) -> Result<(), RunFault>
     ensures counted { (h : List Recording) → R.history (recorder_of app.old) ≡ Some h → OnOk result (counts.new ≡ with_item counts.old (name_of app.old) (length h - before)) }
     ensures faults { IfErr result MayFailToRead }
-    ensures same { IsSame R.history R.capacity R.snapshots R.faults app.old app.new }
+    ensures same { IsSame R.history R.settled R.capacity R.snapshots R.faults app.old app.new }
+    ensures stable { (id : ℕ) → HasStable (R.stable (recorder_of app.old)) id → HasStable (R.stable (recorder_of app.new)) id }
     ensures recorder { IsErrOf result RunFault.Recorder → Rose (R.faults (recorder_of app.old)) (R.faults (recorder_of app.new)) }
 {
     let number = match app.recordings() {
@@ -157,8 +158,8 @@ fn count_each<R: ProcessRecorder>(
     requires distinct { AreDistinct (names_in apps.old) }
     requires each { length before.now ≡ length apps.old }
     requires empty { counts.old ≡ [] }
-    ensures counted { (base c : Contents) → HoldContents R.history R.snapshots base apps.old c → before.now ≡ lengths base.histories (names_in apps.old) → OnOk result (counts.new ≡ in_order (more_than base.histories c.histories) (names_in apps.old)) }
-    ensures holds { (base c : Contents) → HoldContents R.history R.snapshots base apps.old c → HoldContents R.history R.snapshots base apps.new c }
+    ensures counted { (base c : Contents) → HoldContents R.history R.stable R.snapshots base apps.old c → before.now ≡ lengths base.histories (names_in apps.old) → OnOk result (counts.new ≡ in_order (more_than base.histories c.histories) (names_in apps.old)) }
+    ensures holds { (base c : Contents) → HoldContents R.history R.stable R.snapshots base apps.old c → HoldContents R.history R.stable R.snapshots base apps.new c }
     ensures faults { IfErr result MayFailToRead }
     ensures same { AllStay R.faults apps.old apps.new }
     ensures recorder { IsErrOf result RunFault.Recorder → SomeRose R.faults apps.old apps.new }
@@ -183,9 +184,9 @@ fn counted<R: ProcessRecorder>(
 ) -> End
     requires distinct { AreDistinct (names_in apps.old) }
     requires each { length before.now ≡ length apps.old }
-    ensures counts { (base c : Contents) → HoldContents R.history R.snapshots base apps.old c → before.now ≡ lengths base.histories (names_in apps.old) → CountsTold (in_order (more_than base.histories c.histories) (names_in apps.old)) lines result }
+    ensures counts { (base c : Contents) → HoldContents R.history R.stable R.snapshots base apps.old c → before.now ≡ lengths base.histories (names_in apps.old) → CountsTold (in_order (more_than base.histories c.histories) (names_in apps.old)) lines result }
     ensures counted { IsCounted result }
-    ensures holds { (base c : Contents) → HoldContents R.history R.snapshots base apps.old c → HoldContents R.history R.snapshots base apps.new c }
+    ensures holds { (base c : Contents) → HoldContents R.history R.stable R.snapshots base apps.old c → HoldContents R.history R.stable R.snapshots base apps.new c }
     ensures same { AllStay R.faults apps.old apps.new }
     ensures recorder { result ≡ End.Recorder → SomeRose R.faults apps.old apps.new }
 {
@@ -243,8 +244,8 @@ fn end_by<R: ProcessRecorder>(
     requires distinct { AreDistinct (names_in apps.old) }
     requires each { length before.now ≡ length apps.old }
     requires lines { lines < 2 ^ 63 }
-    ensures ends { (base c : Contents) → HoldContents R.history R.snapshots base apps.old c → before.now ≡ lengths base.histories (names_in apps.old) → EndsBy (in_order (more_than base.histories c.histories) (names_in apps.old)) stop lines result }
-    ensures holds { (base c : Contents) → HoldContents R.history R.snapshots base apps.old c → HoldContents R.history R.snapshots base apps.new c }
+    ensures ends { (base c : Contents) → HoldContents R.history R.stable R.snapshots base apps.old c → before.now ≡ lengths base.histories (names_in apps.old) → EndsBy (in_order (more_than base.histories c.histories) (names_in apps.old)) stop lines result }
+    ensures holds { (base c : Contents) → HoldContents R.history R.stable R.snapshots base apps.old c → HoldContents R.history R.stable R.snapshots base apps.new c }
     ensures running { IfOk result IsRunning }
     ensures none_ahead { IfOk result (AheadEnd None) }
     ensures same { AllStay R.faults apps.old apps.new }
@@ -277,8 +278,8 @@ fn run_lines<S: Source, T: Sink, R: ProcessRecorder, C: Clock>(
     requires each { length before.now ≡ length apps.items }
     ensures system { result.0 ≡ sys }
     ensures traced { OfInput (S.left lines.old) (S.left lines.new) (C.readings clock.old) (λ i rest r. (opening : Contents) → ahead (rules_of sys).pairs opening.histories ≡ None → before.now ≡ lengths opening.histories (names_in apps.items)
-        → Holds R.history R.snapshots R.capacity opening limits apps.items (Some r) (state_of opening r)
-        → Runs (terms_of sys) opening r i (Some rest) (HoldContents R.history R.snapshots opening result.1.items) (T.written out.old) (T.written out.new) result.2) }
+        → Holds R.history R.settled R.snapshots R.capacity opening limits apps.items (Some r) (state_of opening r)
+        → Runs (terms_of sys) opening r i (Some rest) (HoldContents R.history R.stable R.snapshots opening result.1.items) (T.written out.old) (T.written out.new) result.2) }
     ensures none_ahead { IfOk result.2 (AheadEnd None) }
     ensures running { IfOk result.2 IsRunning }
     ensures same { AllStay R.faults apps.items result.1.items }
@@ -313,11 +314,11 @@ pub fn run<S: Source, T: Sink, R: ProcessRecorder, C: Clock>(
 ) -> (System, Vec<Application<R>>, Result<End, Failed>)
     requires { AreApps sys (names_in apps.items) }
     ensures system { result.0 ≡ sys }
-    ensures traced { OfInput (S.left lines.old) (S.left lines.new) (C.readings clock.old) (λ i rest r. (opening : Contents) → Holds R.history R.snapshots R.capacity opening limits apps.items (Some r) (state_of opening r)
-        → Runs (terms_of sys) opening r i (Some rest) (HoldContents R.history R.snapshots opening result.1.items) (T.written out.old) (T.written out.new) result.2) }
+    ensures traced { OfInput (S.left lines.old) (S.left lines.new) (C.readings clock.old) (λ i rest r. (opening : Contents) → Holds R.history R.settled R.snapshots R.capacity opening limits apps.items (Some r) (state_of opening r)
+        → Runs (terms_of sys) opening r i (Some rest) (HoldContents R.history R.stable R.snapshots opening result.1.items) (T.written out.old) (T.written out.new) result.2) }
 
     // It ends so exactly where a follower is ahead, unless something failed.
-    ensures ahead { (opening : Contents) (r : Readings) → Holds R.history R.snapshots R.capacity opening limits apps.items (Some r) (state_of opening r) → IfOk result.2 (AheadEnd (ahead (rules_of sys).pairs opening.histories)) }
+    ensures ahead { (opening : Contents) (r : Readings) → Holds R.history R.settled R.snapshots R.capacity opening limits apps.items (Some r) (state_of opening r) → IfOk result.2 (AheadEnd (ahead (rules_of sys).pairs opening.histories)) }
 
     ensures running { IfOk result.2 IsRunning }
     ensures same { AllStay R.faults apps.items result.1.items }

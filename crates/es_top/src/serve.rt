@@ -92,8 +92,8 @@ fn drain_after<R: ProcessRecorder, C: Clock>(
     request: &Request,
 ) -> Result<(), Stop>
     requires ready { IsReady runner.old }
-    ensures drained { Traced (C.readings clock.old) (C.readings clock.new) (λ before after. (base : Contents) (options : Options) (s : State) (prompted : List Name) (u : Option (List ℕ)) → HoldsPrompted R.history R.snapshots R.capacity base options runner.old before s prompted
-        → DrainsAfter (terms (rules_of (system_of runner.old)) options) s (λ next. HoldsPrompted R.history R.snapshots R.capacity base options runner.new after next []) prompted (HoldContents R.history R.snapshots base (apps_of runner.new)) u result) }
+    ensures drained { Traced (C.readings clock.old) (C.readings clock.new) (λ before after. (base : Contents) (options : Options) (s : State) (prompted : List Name) (u : Option (List ℕ)) → HoldsPrompted R.history R.settled R.snapshots R.capacity base options runner.old before s prompted
+        → DrainsAfter (terms (rules_of (system_of runner.old)) options) s (λ next. HoldsPrompted R.history R.settled R.snapshots R.capacity base options runner.new after next []) prompted (HoldContents R.history R.stable R.snapshots base (apps_of runner.new)) u result) }
     ensures tells { TellsBy (is_stop (asks request.now)) result }
     ensures ready { OnOk result (IsReady runner.new) }
     ensures same { GoesOn R.faults runner.old runner.new }
@@ -116,8 +116,8 @@ fn reply_and_drain<T: Sink, R: ProcessRecorder, C: Clock>(
     reply: &Reply,
 ) -> Result<(), Stop>
     requires ready { IsReady runner.old }
-    ensures replied { Traced (C.readings clock.old) (C.readings clock.new) (λ before after. (base : Contents) (options : Options) (s : State) (prompted : List Name) → HoldsPrompted R.history R.snapshots R.capacity base options runner.old before s prompted
-        → RepliesAndDrains (terms (rules_of (system_of runner.old)) options) s (λ next. HoldsPrompted R.history R.snapshots R.capacity base options runner.new after next []) prompted reply.now (HoldContents R.history R.snapshots base (apps_of runner.new))
+    ensures replied { Traced (C.readings clock.old) (C.readings clock.new) (λ before after. (base : Contents) (options : Options) (s : State) (prompted : List Name) → HoldsPrompted R.history R.settled R.snapshots R.capacity base options runner.old before s prompted
+        → RepliesAndDrains (terms (rules_of (system_of runner.old)) options) s (λ next. HoldsPrompted R.history R.settled R.snapshots R.capacity base options runner.new after next []) prompted reply.now (HoldContents R.history R.stable R.snapshots base (apps_of runner.new))
         (T.written out.old) (T.written out.new) result) }
     ensures tells { TellsBy (is_stop (asks request.now)) result }
     ensures ready { OnOk result (IsReady runner.new) }
@@ -143,8 +143,8 @@ fn answer_request<T: Sink, R: ProcessRecorder, C: Clock>(
 ) -> Result<(), Stop>
     requires ready { IsReady runner.old }
     requires asked { IsAsked (system_of runner.old) request.now }
-    ensures answered { Traced (C.readings clock.old) (C.readings clock.new) (λ before after. (base : Contents) (options : Options) (s : State) (line : List ℕ) → request_in (system_of runner.old) line ≡ asks request.now → HoldsPrompted R.history R.snapshots R.capacity base options runner.old before s []
-        → AnswersLine (terms (rules_of (system_of runner.old)) options) s (λ next. HoldsPrompted R.history R.snapshots R.capacity base options runner.new after next []) (text_line line) (HoldContents R.history R.snapshots base (apps_of runner.new))
+    ensures answered { Traced (C.readings clock.old) (C.readings clock.new) (λ before after. (base : Contents) (options : Options) (s : State) (line : List ℕ) → request_in (system_of runner.old) line ≡ asks request.now → HoldsPrompted R.history R.settled R.snapshots R.capacity base options runner.old before s []
+        → AnswersLine (terms (rules_of (system_of runner.old)) options) s (λ next. HoldsPrompted R.history R.settled R.snapshots R.capacity base options runner.new after next []) (text_line line) (HoldContents R.history R.stable R.snapshots base (apps_of runner.new))
         (T.written out.old) (T.written out.new) result) }
     ensures tells { TellsBy (is_stop (asks request.now)) result }
     ensures ready { OnOk result (IsReady runner.new) }
@@ -185,8 +185,8 @@ fn answer_line<T: Sink, R: ProcessRecorder, C: Clock>(
     line: &[u8],
 ) -> Result<(), Stop>
     requires ready { IsReady runner.old }
-    ensures answered { Traced (C.readings clock.old) (C.readings clock.new) (λ before after. (base : Contents) (options : Options) (s : State) → HoldsPrompted R.history R.snapshots R.capacity base options runner.old before s []
-        → AnswersLine (terms (rules_of (system_of runner.old)) options) s (λ next. HoldsPrompted R.history R.snapshots R.capacity base options runner.new after next []) (text_line line.now) (HoldContents R.history R.snapshots base (apps_of runner.new))
+    ensures answered { Traced (C.readings clock.old) (C.readings clock.new) (λ before after. (base : Contents) (options : Options) (s : State) → HoldsPrompted R.history R.settled R.snapshots R.capacity base options runner.old before s []
+        → AnswersLine (terms (rules_of (system_of runner.old)) options) s (λ next. HoldsPrompted R.history R.settled R.snapshots R.capacity base options runner.new after next []) (text_line line.now) (HoldContents R.history R.stable R.snapshots base (apps_of runner.new))
         (T.written out.old) (T.written out.new) result) }
     ensures tells { TellsStop (rules_of (system_of runner.old)) (text_line line.now) result }
     ensures ready { OnOk result (IsReady runner.new) }
@@ -213,8 +213,8 @@ fn turn<S: Source, T: Sink, R: ProcessRecorder, C: Clock>(
     requires clear { fault_of lines.old ≡ None }
     requires ends { EndsRightly S.left lines.old }
     requires ready { IsReady runner.old }
-    ensures turned { LinesTraced S.left lines.old lines.new (C.readings clock.old) (C.readings clock.new) (λ a b before after. ((base : Contents) (options : Options) (s : State) → HoldsPrompted R.history R.snapshots R.capacity base options runner.old before s []
-        → TakesTurn (terms (rules_of (system_of runner.old)) options) s (λ next. HoldsPrompted R.history R.snapshots R.capacity base options runner.new after next []) (lines_from lines.old a) (lines_from lines.new b) (HoldContents R.history R.snapshots base (apps_of runner.new))
+    ensures turned { LinesTraced S.left lines.old lines.new (C.readings clock.old) (C.readings clock.new) (λ a b before after. ((base : Contents) (options : Options) (s : State) → HoldsPrompted R.history R.settled R.snapshots R.capacity base options runner.old before s []
+        → TakesTurn (terms (rules_of (system_of runner.old)) options) s (λ next. HoldsPrompted R.history R.settled R.snapshots R.capacity base options runner.new after next []) (lines_from lines.old a) (lines_from lines.new b) (HoldContents R.history R.stable R.snapshots base (apps_of runner.new))
         (T.written out.old) (T.written out.new) result)
         × OnOk result (UsesSome a b (has_ended lines.new))
         × (IsErrOf result Stop.Read → LeavesUnended a b)) }
@@ -252,8 +252,8 @@ fn answer_all<S: Source, T: Sink, R: ProcessRecorder, C: Clock>(
     requires ends { EndsRightly S.left lines.old }
     requires room { room_of lines.old < 2 ^ 63 }
     requires ready { IsReady runner.old }
-    ensures answered { LinesTraced S.left lines.old lines.new (C.readings clock.old) (C.readings clock.new) (λ a b before after. ((base : Contents) (options : Options) (s n : State) (u : Option (List ℕ)) → Begun (terms (rules_of (system_of runner.old)) options) s n u (T.written out.old) → HoldsPrompted R.history R.snapshots R.capacity base options runner.old before n []
-        → Serves (terms (rules_of (system_of runner.old)) options) s (λ next. HoldsPrompted R.history R.snapshots R.capacity base options runner.new after next []) (lines_from lines.old a) result.0 result.1 (HoldContents R.history R.snapshots base (apps_of runner.new)) u (T.written out.new))
+    ensures answered { LinesTraced S.left lines.old lines.new (C.readings clock.old) (C.readings clock.new) (λ a b before after. ((base : Contents) (options : Options) (s n : State) (u : Option (List ℕ)) → Begun (terms (rules_of (system_of runner.old)) options) s n u (T.written out.old) → HoldsPrompted R.history R.settled R.snapshots R.capacity base options runner.old before n []
+        → Serves (terms (rules_of (system_of runner.old)) options) s (λ next. HoldsPrompted R.history R.settled R.snapshots R.capacity base options runner.new after next []) (lines_from lines.old a) result.0 result.1 (HoldContents R.history R.stable R.snapshots base (apps_of runner.new)) u (T.written out.new))
         × (result.0 ≡ Stop.Read → Taken a result.1 b)) }
     ensures count { result.1 < 2 ^ 63 }
     ensures left { result.0 ≡ Stop.Read → (b : List ℕ) → MayHold (S.left (source_of lines.new).now) b → MayHaveLeft S.left lines.new b }
@@ -287,8 +287,8 @@ pub fn serve<S: Source, T: Sink, R: ProcessRecorder, C: Clock>(
     requires room { room_of lines.old < 2 ^ 63 }
     requires apps { AreApps (system_of runner.old) (names_of runner.old) }
     requires new { IsNew (system_of runner.old) (apps_of runner.old) runner.old }
-    ensures served { LinesTraced S.left lines.old lines.new (C.readings clock.old) (C.readings clock.new) (λ a b before after. ((base : Contents) (options : Options) (s : State) → Holds R.history R.snapshots R.capacity base options (apps_of runner.old) before s
-        → Serves (terms (rules_of (system_of runner.old)) options) s (λ next. HoldsPrompted R.history R.snapshots R.capacity base options runner.new after next []) (lines_from lines.old a) result.0 result.1 (HoldContents R.history R.snapshots base (apps_of runner.new))
+    ensures served { LinesTraced S.left lines.old lines.new (C.readings clock.old) (C.readings clock.new) (λ a b before after. ((base : Contents) (options : Options) (s : State) → Holds R.history R.settled R.snapshots R.capacity base options (apps_of runner.old) before s
+        → Serves (terms (rules_of (system_of runner.old)) options) s (λ next. HoldsPrompted R.history R.settled R.snapshots R.capacity base options runner.new after next []) (lines_from lines.old a) result.0 result.1 (HoldContents R.history R.stable R.snapshots base (apps_of runner.new))
         (T.written out.old) (T.written out.new))
         × (result.0 ≡ Stop.Read → Taken a result.1 b)) }
     ensures count { result.1 < 2 ^ 63 }

@@ -24,7 +24,7 @@ ghost use Rattle.es_top.specs.Ends.{end_of_load, ended, sorted, status_of_load, 
 ghost use Rattle.es_top.specs.Loads.{TakesDocument};
 ghost use Rattle.es_top.specs.inner.Begins.{AheadEnd};
 ghost use Rattle.es_top.specs.inner.Ran.{IsOfSystem, Stands};
-ghost use Rattle.es_top.specs.Top.{AheadExactly, LeavesConsistent, Ran, StoresTell, WhereDeclared};
+ghost use Rattle.es_top.specs.Top.{AheadExactly, LeavesConsistent, Ran, Restarts, StoresTell, WhereDeclared};
 ghost use Rattle.es_top.specs.Words.{system_in};
 
 use crate::Status;
@@ -53,6 +53,7 @@ fn run_system<S: Source, T: Sink, M: Stores, C: Clock>(
         → Stands sys i rest r opening (λ c. StoresTell c (M.held stores.new) (M.snapshots stores.new)) (T.written out.old) (T.written out.new) result) }
     ensures ahead { (opening : Contents) → StoresTell opening (M.held stores.old) (M.snapshots stores.old) → IfOk result (AheadEnd (ahead (rules_of sys).pairs opening.histories)) }
     ensures of_system { IfOk result IsOfSystem }
+    ensures restarts { Restarts (rules_of sys).pairs (M.held stores.old) (M.stable stores.old) (M.snapshots stores.old) (M.held stores.new) (M.stable stores.new) }
     ensures closed { (name : Name) → M.out stores.new name ≡ M.out stores.old name }
     ensures out_later { T.faults out.old ≤ T.faults out.new }
     ensures bound { TakesLines (S.left lines.old) (S.left lines.new) }
@@ -85,6 +86,7 @@ fn run_to_end<S: Source, T: Sink, M: Stores, C: Clock>(
         (λ i rest r. Ran (Rose (S.faults lines.old) (S.faults lines.new)) (Rose (M.faults stores.old) (M.faults stores.new)) ⊥ sys i rest r opening (M.held stores.new) (M.snapshots stores.new) (T.written out.old) (T.written out.new) result) }
     ensures ahead { (opening : Contents) → StoresTell opening (M.held stores.old) (M.snapshots stores.old) → AheadExactly (ahead (rules_of sys).pairs opening.histories) result }
     ensures begun { sorted result ≡ Some unbegun → ⊥ }
+    ensures restarts { Restarts (rules_of sys).pairs (M.held stores.old) (M.stable stores.old) (M.snapshots stores.old) (M.held stores.new) (M.stable stores.new) }
     ensures bound { TakesLines (S.left lines.old) (S.left lines.new) }
     ensures input { result ≡ Status.Input → Rose (S.faults lines.old) (S.faults lines.new) }
     ensures sink { result ≡ Status.Sink → Rose (T.faults out.old) (T.faults out.new) }
@@ -191,6 +193,10 @@ pub fn evsys_single<D: Document, S: Source, T: Sink, M: Stores, C: Clock>(
 
     // Status 10: exactly where a follower is ahead of its leader at the opening, unless something failed.
     ensures ahead { WhereDeclared (D.documents system.old) words.now (M.held stores.old) (M.snapshots stores.old) (λ sys opening. AheadExactly (ahead (rules_of sys).pairs opening.histories) result) }
+
+    // At every status: where at the beginning no follower tracked more than what was stable of its leader, none does so now. So whatever a
+    // stop leaves of the stores, the next run finds no follower ahead of its leader.
+    ensures restarts { (sys : SystemOf) → declares (D.documents system.old) words.now ≡ Some (Ok sys) → Restarts (rules_of sys).pairs (M.held stores.old) (M.stable stores.old) (M.snapshots stores.old) (M.held stores.new) (M.stable stores.new) }
 
     // At every status each recorder that was opened is closed.
     ensures closed { (name : Name) → M.out stores.new name ≡ M.out stores.old name }

@@ -32,13 +32,15 @@ told_of asked history = option_map (told_by asked) history
 pub record Kept : Type 0 where
   pub reference : ℕ
   pub history : Option (List Recording)
+  pub settled : Bool
   pub snapshots : Option (List Snapshot)
   pub capacity : ℕ
 
-abbrev pub kept_of : {R : Type 0} → (R → Option (List Recording)) → (R → Option (List Snapshot)) → (R → ℕ) → Reader R → Kept
-kept_of history snapshots capacity r = record {
+abbrev pub kept_of : {R : Type 0} → (R → Option (List Recording)) → (R → Bool) → (R → Option (List Snapshot)) → (R → ℕ) → Reader R → Kept
+kept_of history settled snapshots capacity r = record {
   reference = r.recorder.ghost_name;
   history = history r.recorder.now;
+  settled = settled r.recorder.now;
   snapshots = snapshots r.recorder.now;
   capacity = capacity r.recorder.now;
 }

@@ -18,8 +18,8 @@ returns-in_err-queue-clause-drained g c = λ after may. (
   may,
   λ base options s u held.
       let fails : c.from_residual.result ≡ Err fault.NoMemory = search rules in
-      subst (Drains (terms (rules_of c.args.sys.now) options) s (Holds g.R.AggregateRecorder.history g.R.AggregateRecorder.snapshots g.R.AggregateRecorder.capacity base options c.args.apps.now (Some after)) (HoldContents g.R.AggregateRecorder.history g.R.AggregateRecorder.snapshots base c.args.apps.now) c.args.prompted.now u) (sym fails)
-      (cut_here (terms (rules_of c.args.sys.now) options) s c.args.prompted.now [] _ u (held-contents g.R.AggregateRecorder.history g.R.AggregateRecorder.snapshots g.R.AggregateRecorder.capacity base options c.args.apps.now _ s held)),
+      subst (Drains (terms (rules_of c.args.sys.now) options) s (Holds g.R.AggregateRecorder.history g.R.AggregateRecorder.settled g.R.AggregateRecorder.snapshots g.R.AggregateRecorder.capacity base options c.args.apps.now (Some after)) (HoldContents g.R.AggregateRecorder.history g.R.AggregateRecorder.stable g.R.AggregateRecorder.snapshots base c.args.apps.now) c.args.prompted.now u) (sym fails)
+      (cut_here (terms (rules_of c.args.sys.now) options) s c.args.prompted.now [] _ u (held-contents g.R.AggregateRecorder.history g.R.AggregateRecorder.stable g.R.AggregateRecorder.settled g.met.R.AggregateRecorder.settled_is_whole g.R.AggregateRecorder.snapshots g.R.AggregateRecorder.capacity base options c.args.apps.now _ s held)),
 )
 
 pub returns-in_err-pairs-clause-drained : goal.returns-in_err-pairs-clause-drained
@@ -28,8 +28,8 @@ returns-in_err-pairs-clause-drained g c = λ after may. (
   may,
   λ base options s u held.
       let fails : c.from_residual-in_err-pairs.result ≡ Err fault.NoMemory = search rules in
-      subst (Drains (terms (rules_of c.args.sys.now) options) s (Holds g.R.AggregateRecorder.history g.R.AggregateRecorder.snapshots g.R.AggregateRecorder.capacity base options c.args.apps.now (Some after)) (HoldContents g.R.AggregateRecorder.history g.R.AggregateRecorder.snapshots base c.args.apps.now) c.args.prompted.now u) (sym fails)
-      (cut_here (terms (rules_of c.args.sys.now) options) s c.args.prompted.now [] _ u (held-contents g.R.AggregateRecorder.history g.R.AggregateRecorder.snapshots g.R.AggregateRecorder.capacity base options c.args.apps.now _ s held)),
+      subst (Drains (terms (rules_of c.args.sys.now) options) s (Holds g.R.AggregateRecorder.history g.R.AggregateRecorder.settled g.R.AggregateRecorder.snapshots g.R.AggregateRecorder.capacity base options c.args.apps.now (Some after)) (HoldContents g.R.AggregateRecorder.history g.R.AggregateRecorder.stable g.R.AggregateRecorder.snapshots base c.args.apps.now) c.args.prompted.now u) (sym fails)
+      (cut_here (terms (rules_of c.args.sys.now) options) s c.args.prompted.now [] _ u (held-contents g.R.AggregateRecorder.history g.R.AggregateRecorder.stable g.R.AggregateRecorder.settled g.met.R.AggregateRecorder.settled_is_whole g.R.AggregateRecorder.snapshots g.R.AggregateRecorder.capacity base options c.args.apps.now _ s held)),
 )
 
 pub returns-clause-drained : goal.returns-clause-drained
@@ -46,6 +46,6 @@ returns-clause-reached g c = λ after may.
       x.0,
       x.1,
       λ base options s held all none.
-          drained-reached g.R.AggregateRecorder.history g.R.AggregateRecorder.snapshots g.R.AggregateRecorder.capacity base options c.drain_with.new.apps (Some after) (terms (rules_of c.args.sys.now) options) s c.args.prompted.now None c.drain_with.result
+          drained-reached g.R.AggregateRecorder.history g.R.AggregateRecorder.stable g.R.AggregateRecorder.settled g.R.AggregateRecorder.snapshots g.R.AggregateRecorder.capacity base options c.drain_with.new.apps (Some after) (terms (rules_of c.args.sys.now) options) s c.args.prompted.now None c.drain_with.result
           (x.2 base options s c.args.prompted.now None held (subst (ArePrompted (names_in c.args.apps.now) c.in_ok-queue.queue.items) c.as_slice.ensures (c.in_ok-queue.ensures {u = tt}))) all none,
     )

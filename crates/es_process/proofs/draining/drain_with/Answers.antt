@@ -26,12 +26,12 @@ loop-leader-preserved g c =
         z.0,
         z.1,
         λ base options s prompted u held are.
-            let H = Holds g.R.AggregateRecorder.history g.R.AggregateRecorder.snapshots g.R.AggregateRecorder.capacity base options c.loop-leader.apps (Some y.0) in
+            let H = Holds g.R.AggregateRecorder.history g.R.AggregateRecorder.settled g.R.AggregateRecorder.snapshots g.R.AggregateRecorder.capacity base options c.loop-leader.apps (Some y.0) in
             let x = subst (λ q. CameToQueue (terms (rules_of c.args.sys.now) options) s H (names_in c.args.apps.now) prompted q u) queued (z.2 base options s prompted u held are) in
             let f = taken (terms (rules_of c.args.sys.now) options) s c.args.pairs.now c.requires.pairs.all H (names_in c.args.apps.now) prompted c.in-Some.leader c.pop_front.new.self.items u x in
             let m = from_leader (terms (rules_of c.args.sys.now) options) s c.args.pairs.now c.requires.pairs.all H (names_in c.args.apps.now) prompted c.in-Some.leader c.pop_front.new.self.items u x in
-            drain_then (terms (rules_of c.args.sys.now) options) s c.args.pairs.now c.requires.pairs.all H (names_in c.args.apps.now) prompted c.in-Some.leader c.pop_front.new.self.items u x _ (HoldContents g.R.AggregateRecorder.history g.R.AggregateRecorder.snapshots base c.follow_each.new.apps) c.follow_each.new.queue.items c.in-Ok.field-0
-            (subst (λ ns. FollowsEach (terms (rules_of c.args.sys.now) options) m.state c.args.pairs.now f.name (Holds g.R.AggregateRecorder.history g.R.AggregateRecorder.snapshots g.R.AggregateRecorder.capacity base options c.follow_each.new.apps (Some after)) (HoldContents g.R.AggregateRecorder.history g.R.AggregateRecorder.snapshots base c.follow_each.new.apps) ns f.later c.follow_each.new.queue.items u (Ok c.in-Ok.field-0)) c.loop-leader.invariant.same.names
+            drain_then (terms (rules_of c.args.sys.now) options) s c.args.pairs.now c.requires.pairs.all H (names_in c.args.apps.now) prompted c.in-Some.leader c.pop_front.new.self.items u x _ (HoldContents g.R.AggregateRecorder.history g.R.AggregateRecorder.stable g.R.AggregateRecorder.snapshots base c.follow_each.new.apps) c.follow_each.new.queue.items c.in-Ok.field-0
+            (subst (λ ns. FollowsEach (terms (rules_of c.args.sys.now) options) m.state c.args.pairs.now f.name (Holds g.R.AggregateRecorder.history g.R.AggregateRecorder.settled g.R.AggregateRecorder.snapshots g.R.AggregateRecorder.capacity base options c.follow_each.new.apps (Some after)) (HoldContents g.R.AggregateRecorder.history g.R.AggregateRecorder.stable g.R.AggregateRecorder.snapshots base c.follow_each.new.apps) ns f.later c.follow_each.new.queue.items u (Ok c.in-Ok.field-0)) c.loop-leader.invariant.same.names
             (y.2 base options m.state f.name f.later u m.held (ap (λ ns. slice_get ns c.in-Some.leader) c.loop-leader.invariant.same.names ∙ f.at) (subst (λ ns. ArePrompted ns c.pop_front.new.self.items f.later) (sym c.loop-leader.invariant.same.names) f.others))),
       );
       same = all-then c.loop-leader.invariant.same c.follow_each.ensures.same;
@@ -44,11 +44,11 @@ returns-in-Err-clause-drained g c =
       z.0,
       z.1,
       λ base options s prompted u held are.
-          let H = Holds g.R.AggregateRecorder.history g.R.AggregateRecorder.snapshots g.R.AggregateRecorder.capacity base options c.loop-leader.apps (Some y.0) in
+          let H = Holds g.R.AggregateRecorder.history g.R.AggregateRecorder.settled g.R.AggregateRecorder.snapshots g.R.AggregateRecorder.capacity base options c.loop-leader.apps (Some y.0) in
           let x = subst (λ q. CameToQueue (terms (rules_of c.args.sys.now) options) s H (names_in c.args.apps.now) prompted q u) queued (z.2 base options s prompted u held are) in
           let f = taken (terms (rules_of c.args.sys.now) options) s c.args.pairs.now c.requires.pairs.all H (names_in c.args.apps.now) prompted c.in-Some.leader c.pop_front.new.self.items u x in
           let m = from_leader (terms (rules_of c.args.sys.now) options) s c.args.pairs.now c.requires.pairs.all H (names_in c.args.apps.now) prompted c.in-Some.leader c.pop_front.new.self.items u x in
-          drain_faulted (terms (rules_of c.args.sys.now) options) s c.args.pairs.now c.requires.pairs.all H (names_in c.args.apps.now) prompted c.in-Some.leader c.pop_front.new.self.items u x (Holds g.R.AggregateRecorder.history g.R.AggregateRecorder.snapshots g.R.AggregateRecorder.capacity base options c.follow_each.new.apps (Some after)) _ c.follow_each.new.queue.items c.in-Err.fault
+          drain_faulted (terms (rules_of c.args.sys.now) options) s c.args.pairs.now c.requires.pairs.all H (names_in c.args.apps.now) prompted c.in-Some.leader c.pop_front.new.self.items u x (Holds g.R.AggregateRecorder.history g.R.AggregateRecorder.settled g.R.AggregateRecorder.snapshots g.R.AggregateRecorder.capacity base options c.follow_each.new.apps (Some after)) _ c.follow_each.new.queue.items c.in-Err.fault
           (y.2 base options m.state f.name f.later u m.held (ap (λ ns. slice_get ns c.in-Some.leader) c.loop-leader.invariant.same.names ∙ f.at) (subst (λ ns. ArePrompted ns c.pop_front.new.self.items f.later) (sym c.loop-leader.invariant.same.names) f.others)),
     )
 

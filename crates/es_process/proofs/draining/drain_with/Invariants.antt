@@ -14,9 +14,9 @@ use Rattle.es_process.proofs.draining.drain_with.Given as goal
 abbrev pub invariant-loop-leader : goal.invariant-loop-leader
 invariant-loop-leader g l = record {
   drained : Traced (g.C.Clock.readings l.initial.clock) (g.C.Clock.readings l.clock) (λ before after. (base : Contents) (options : Options) (s : State) (prompted : List Name) (u : Option (List ℕ))
-      → Holds g.R.AggregateRecorder.history g.R.AggregateRecorder.snapshots g.R.AggregateRecorder.capacity base options l.initial.apps before s
+      → Holds g.R.AggregateRecorder.history g.R.AggregateRecorder.settled g.R.AggregateRecorder.snapshots g.R.AggregateRecorder.capacity base options l.initial.apps before s
       → ArePrompted (names_in l.initial.apps) l.initial.queue.items prompted
-      → CameToQueue (terms (rules_of l.fn.sys) options) s (Holds g.R.AggregateRecorder.history g.R.AggregateRecorder.snapshots g.R.AggregateRecorder.capacity base options l.apps after) (names_in l.initial.apps) prompted l.queue.items u);
+      → CameToQueue (terms (rules_of l.fn.sys) options) s (Holds g.R.AggregateRecorder.history g.R.AggregateRecorder.settled g.R.AggregateRecorder.snapshots g.R.AggregateRecorder.capacity base options l.apps after) (names_in l.initial.apps) prompted l.queue.items u);
   same : AllStay g.R.AggregateRecorder.faults l.initial.apps l.apps;
 }
 

@@ -26,8 +26,8 @@ loop-more-preserved g c = record {
     z.1,
     λ base options s prompted rest u held are.
         let x = rw c.loop-more-test.true at (z.2 base options s prompted rest u held are) in
-        follow_more (terms (rules_of c.args.sys.now) options) s c.args.pair.now _ (HoldContents g.R.AggregateRecorder.history g.R.AggregateRecorder.snapshots base c.follow_one.new.apps) _ prompted _ rest u x _ c.follow_one.new.queue.items c.in-Ok.found
-        (subst (λ ns. FollowsOne (terms (rules_of c.args.sys.now) options) x.2.state c.args.pair.now (Holds g.R.AggregateRecorder.history g.R.AggregateRecorder.snapshots g.R.AggregateRecorder.capacity base options c.follow_one.new.apps (Some after)) (HoldContents g.R.AggregateRecorder.history g.R.AggregateRecorder.snapshots base c.follow_one.new.apps) ns x.0 c.follow_one.new.queue.items rest u (Ok c.in-Ok.found)) c.loop-more.invariant.same.names
+        follow_more (terms (rules_of c.args.sys.now) options) s c.args.pair.now _ (HoldContents g.R.AggregateRecorder.history g.R.AggregateRecorder.stable g.R.AggregateRecorder.snapshots base c.follow_one.new.apps) _ prompted _ rest u x _ c.follow_one.new.queue.items c.in-Ok.found
+        (subst (λ ns. FollowsOne (terms (rules_of c.args.sys.now) options) x.2.state c.args.pair.now (Holds g.R.AggregateRecorder.history g.R.AggregateRecorder.settled g.R.AggregateRecorder.snapshots g.R.AggregateRecorder.capacity base options c.follow_one.new.apps (Some after)) (HoldContents g.R.AggregateRecorder.history g.R.AggregateRecorder.stable g.R.AggregateRecorder.snapshots base c.follow_one.new.apps) ns x.0 c.follow_one.new.queue.items rest u (Ok c.in-Ok.found)) c.loop-more.invariant.same.names
         (y.2 base options x.2.state x.0 rest u x.2.held (subst (λ ns. ArePrompted ns c.loop-more.queue.items x.0) (sym c.loop-more.invariant.same.names) x.1))),
   );
   spends = omega (arith, c.loop-more.invariant.spends, (c.in-Ok.ensures {u = tt}).spends);

@@ -13,10 +13,10 @@ use Rattle.es_process.proofs.draining.follow.Given as goal
 abbrev pub invariant-loop-more : goal.invariant-loop-more
 invariant-loop-more g l = record {
   followed : Traced (g.C.Clock.readings l.initial.clock) (g.C.Clock.readings l.clock) (λ before after. (base : Contents) (options : Options) (s : State) (prompted : List Name) (rest : List (Name × Name)) (u : Option (List ℕ))
-      → Holds g.R.AggregateRecorder.history g.R.AggregateRecorder.snapshots g.R.AggregateRecorder.capacity base options l.initial.apps before s
+      → Holds g.R.AggregateRecorder.history g.R.AggregateRecorder.settled g.R.AggregateRecorder.snapshots g.R.AggregateRecorder.capacity base options l.initial.apps before s
       → ArePrompted (names_in l.initial.apps) l.initial.queue.items prompted
-      → FollowsOne (terms (rules_of l.fn.sys) options) s l.fn.pair (Holds g.R.AggregateRecorder.history g.R.AggregateRecorder.snapshots g.R.AggregateRecorder.capacity base options l.apps after)
-      (HoldContents g.R.AggregateRecorder.history g.R.AggregateRecorder.snapshots base l.apps) (names_in l.initial.apps) prompted l.queue.items rest u (Ok l.more));
+      → FollowsOne (terms (rules_of l.fn.sys) options) s l.fn.pair (Holds g.R.AggregateRecorder.history g.R.AggregateRecorder.settled g.R.AggregateRecorder.snapshots g.R.AggregateRecorder.capacity base options l.apps after)
+      (HoldContents g.R.AggregateRecorder.history g.R.AggregateRecorder.stable g.R.AggregateRecorder.snapshots base l.apps) (names_in l.initial.apps) prompted l.queue.items rest u (Ok l.more));
   spends : Spends l.initial.apps l.apps l.initial.queue.items l.queue.items;
   same : AllStay g.R.AggregateRecorder.faults l.initial.apps l.apps;
 }

@@ -32,9 +32,9 @@ loop-pair-preserved g c =
         z.0,
         z.1,
         λ base options s name prompted u held at are.
-            let x = subst (λ left. CameToEach (terms (rules_of c.args.sys.now) options) s c.args.pairs.now left name (Holds g.R.AggregateRecorder.history g.R.AggregateRecorder.snapshots g.R.AggregateRecorder.capacity base options c.loop-pair.apps (Some y.0)) (names_in c.args.apps.now) prompted c.loop-pair.queue.items u) (drop-next c.args.pairs.now c.loop-pair.pair-index c.pair-item.result within c.pair-item.is) (z.2 base options s name prompted u held at are) in
-            each_followed (terms (rules_of c.args.sys.now) options) s c.args.pairs.now c.pair-item.result (drop (c.loop-pair.pair-index + 1) c.args.pairs.now) name _ (names_in c.args.apps.now) prompted _ u x _ (HoldContents g.R.AggregateRecorder.history g.R.AggregateRecorder.snapshots base c.follow_led.new.apps) c.follow_led.new.queue.items c.in-Ok.field-0
-            (subst (λ ns. FollowsLed (terms (rules_of c.args.sys.now) options) x.2.state c.pair-item.result name (Holds g.R.AggregateRecorder.history g.R.AggregateRecorder.snapshots g.R.AggregateRecorder.capacity base options c.follow_led.new.apps (Some after)) (HoldContents g.R.AggregateRecorder.history g.R.AggregateRecorder.snapshots base c.follow_led.new.apps) ns x.0 c.follow_led.new.queue.items (map names_of_pair (drop (c.loop-pair.pair-index + 1) c.args.pairs.now)) u (Ok c.in-Ok.field-0)) c.loop-pair.invariant.same.names
+            let x = subst (λ left. CameToEach (terms (rules_of c.args.sys.now) options) s c.args.pairs.now left name (Holds g.R.AggregateRecorder.history g.R.AggregateRecorder.settled g.R.AggregateRecorder.snapshots g.R.AggregateRecorder.capacity base options c.loop-pair.apps (Some y.0)) (names_in c.args.apps.now) prompted c.loop-pair.queue.items u) (drop-next c.args.pairs.now c.loop-pair.pair-index c.pair-item.result within c.pair-item.is) (z.2 base options s name prompted u held at are) in
+            each_followed (terms (rules_of c.args.sys.now) options) s c.args.pairs.now c.pair-item.result (drop (c.loop-pair.pair-index + 1) c.args.pairs.now) name _ (names_in c.args.apps.now) prompted _ u x _ (HoldContents g.R.AggregateRecorder.history g.R.AggregateRecorder.stable g.R.AggregateRecorder.snapshots base c.follow_led.new.apps) c.follow_led.new.queue.items c.in-Ok.field-0
+            (subst (λ ns. FollowsLed (terms (rules_of c.args.sys.now) options) x.2.state c.pair-item.result name (Holds g.R.AggregateRecorder.history g.R.AggregateRecorder.settled g.R.AggregateRecorder.snapshots g.R.AggregateRecorder.capacity base options c.follow_led.new.apps (Some after)) (HoldContents g.R.AggregateRecorder.history g.R.AggregateRecorder.stable g.R.AggregateRecorder.snapshots base c.follow_led.new.apps) ns x.0 c.follow_led.new.queue.items (map names_of_pair (drop (c.loop-pair.pair-index + 1) c.args.pairs.now)) u (Ok c.in-Ok.field-0)) c.loop-pair.invariant.same.names
             (y.2 base options x.2.state name x.0 (map names_of_pair (drop (c.loop-pair.pair-index + 1) c.args.pairs.now)) u x.2.held (ap (λ ns. slice_get ns c.args.leader) c.loop-pair.invariant.same.names ∙ at) (subst (λ ns. ArePrompted ns c.loop-pair.queue.items x.0) (sym c.loop-pair.invariant.same.names) x.1))),
       );
       spends = omega (arith, c.loop-pair.invariant.spends, (c.in-Ok.ensures {u = tt}).spends);
@@ -48,8 +48,8 @@ returns-in-Err-clause-followed g c =
       z.0,
       z.1,
       λ base options s name prompted u held at are.
-          let x = subst (λ left. CameToEach (terms (rules_of c.args.sys.now) options) s c.args.pairs.now left name (Holds g.R.AggregateRecorder.history g.R.AggregateRecorder.snapshots g.R.AggregateRecorder.capacity base options c.loop-pair.apps (Some y.0)) (names_in c.args.apps.now) prompted c.loop-pair.queue.items u) (drop-next c.args.pairs.now c.loop-pair.pair-index c.pair-item.result within c.pair-item.is) (z.2 base options s name prompted u held at are) in
-          each_faulted (terms (rules_of c.args.sys.now) options) s c.args.pairs.now c.pair-item.result (drop (c.loop-pair.pair-index + 1) c.args.pairs.now) name _ (names_in c.args.apps.now) prompted _ u x (Holds g.R.AggregateRecorder.history g.R.AggregateRecorder.snapshots g.R.AggregateRecorder.capacity base options c.follow_led.new.apps (Some after)) _ c.follow_led.new.queue.items c.in-Err.fault
+          let x = subst (λ left. CameToEach (terms (rules_of c.args.sys.now) options) s c.args.pairs.now left name (Holds g.R.AggregateRecorder.history g.R.AggregateRecorder.settled g.R.AggregateRecorder.snapshots g.R.AggregateRecorder.capacity base options c.loop-pair.apps (Some y.0)) (names_in c.args.apps.now) prompted c.loop-pair.queue.items u) (drop-next c.args.pairs.now c.loop-pair.pair-index c.pair-item.result within c.pair-item.is) (z.2 base options s name prompted u held at are) in
+          each_faulted (terms (rules_of c.args.sys.now) options) s c.args.pairs.now c.pair-item.result (drop (c.loop-pair.pair-index + 1) c.args.pairs.now) name _ (names_in c.args.apps.now) prompted _ u x (Holds g.R.AggregateRecorder.history g.R.AggregateRecorder.settled g.R.AggregateRecorder.snapshots g.R.AggregateRecorder.capacity base options c.follow_led.new.apps (Some after)) _ c.follow_led.new.queue.items c.in-Err.fault
           (y.2 base options x.2.state name x.0 (map names_of_pair (drop (c.loop-pair.pair-index + 1) c.args.pairs.now)) u x.2.held (ap (λ ns. slice_get ns c.args.leader) c.loop-pair.invariant.same.names ∙ at) (subst (λ ns. ArePrompted ns c.loop-pair.queue.items x.0) (sym c.loop-pair.invariant.same.names) x.1)),
     )
 
@@ -65,5 +65,5 @@ returns-clause-followed g c = λ after may.
       z.0,
       z.1,
       λ base options s name prompted u held at are.
-          subst (λ left. CameToEach (terms (rules_of c.args.sys.now) options) s c.args.pairs.now left name (Holds g.R.AggregateRecorder.history g.R.AggregateRecorder.snapshots g.R.AggregateRecorder.capacity base options c.loop-pair.apps (Some after)) (names_in c.args.apps.now) prompted c.loop-pair.queue.items u) (drop_all c.loop-pair.pair-index c.args.pairs.now c.loop-pair-test.false) (z.2 base options s name prompted u held at are),
+          subst (λ left. CameToEach (terms (rules_of c.args.sys.now) options) s c.args.pairs.now left name (Holds g.R.AggregateRecorder.history g.R.AggregateRecorder.settled g.R.AggregateRecorder.snapshots g.R.AggregateRecorder.capacity base options c.loop-pair.apps (Some after)) (names_in c.args.apps.now) prompted c.loop-pair.queue.items u) (drop_all c.loop-pair.pair-index c.args.pairs.now c.loop-pair-test.false) (z.2 base options s name prompted u held at are),
     )

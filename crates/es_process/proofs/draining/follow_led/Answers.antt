@@ -9,7 +9,7 @@ returns-then-pair-leader-clause-followed g c = λ after may. (
   after,
   may,
   λ base options s name prompted rest u held at are.
-      led_other (terms (rules_of c.args.sys.now) options) s c.args.pair.now name _ (HoldContents g.R.AggregateRecorder.history g.R.AggregateRecorder.snapshots base c.args.apps.now) _ prompted c.args.queue.now.items rest u tt
+      led_other (terms (rules_of c.args.sys.now) options) s c.args.pair.now name _ (HoldContents g.R.AggregateRecorder.history g.R.AggregateRecorder.stable g.R.AggregateRecorder.snapshots base c.args.apps.now) _ prompted c.args.queue.now.items rest u tt
       (place_other _ c.requires.pair.apps.distinct c.args.pair.now.leader c.args.leader c.args.pair.now.leader_name name c.requires.pair.placed.leader at c.if-pair-leader.true) held are,
 )
 

@@ -27,7 +27,7 @@ returns-in-Err-clause-followed g c = λ after may. (
   λ base options s prompted rest u held are.
       let still = c.next_of.ensures.holds base options _ s held in
       reading_failed (terms (rules_of c.args.sys.now) options) s prompted ((c.args.pair.now.leader_name, c.args.pair.now.follower_name) ∷ rest) c.in-Err.fault _ u (c.in-Err.ensures {u = tt}).faults
-      (held-contents _ _ _ base options _ _ s still),
+      (held-contents _ _ _ g.met.R.AggregateRecorder.settled_is_whole _ _ base options _ _ s still),
 )
 
 pub returns-in-Ok-Some-clause-followed : goal.returns-in-Ok-Some-clause-followed
@@ -36,7 +36,7 @@ returns-in-Ok-Some-clause-followed g c = λ after may.
       x.0,
       x.1,
       λ base options s prompted rest u held are.
-          subst (λ ns. FollowsOne (terms (rules_of c.args.sys.now) options) s c.args.pair.now (Holds g.R.AggregateRecorder.history g.R.AggregateRecorder.snapshots g.R.AggregateRecorder.capacity base options c.process_next.new.apps (Some after)) (HoldContents g.R.AggregateRecorder.history g.R.AggregateRecorder.snapshots base c.process_next.new.apps) ns prompted c.process_next.new.queue.items rest u c.process_next.result) c.next_of.ensures.same.names
+          subst (λ ns. FollowsOne (terms (rules_of c.args.sys.now) options) s c.args.pair.now (Holds g.R.AggregateRecorder.history g.R.AggregateRecorder.settled g.R.AggregateRecorder.snapshots g.R.AggregateRecorder.capacity base options c.process_next.new.apps (Some after)) (HoldContents g.R.AggregateRecorder.history g.R.AggregateRecorder.stable g.R.AggregateRecorder.snapshots base c.process_next.new.apps) ns prompted c.process_next.new.queue.items rest u c.process_next.result) c.next_of.ensures.same.names
           (x.2 base options s prompted rest u (c.next_of.ensures.holds base options _ s held) (subst (λ ns. ArePrompted ns c.args.queue.now.items prompted) (sym c.next_of.ensures.same.names) are) (rw c.in-Ok-Some.field-0-is at ((c.in-Ok-Some.ensures {u = tt}).found base options _ s held))),
     )
 

@@ -13,7 +13,7 @@ returns-in-Err-clause-followed g c = λ after may. (
   after,
   may,
   λ base options s prompted rest u held are next.
-      no-turn c.args.sys.now c.args.apps.now c.args.pair.now c.requires.pair c.index-apps-pair.result g.R.AggregateRecorder.history g.R.AggregateRecorder.snapshots g.R.AggregateRecorder.capacity base options _ s held c.args.notification.now next prompted rest u c.in-Err.fault
+      no-turn c.args.sys.now c.args.apps.now c.args.pair.now c.requires.pair c.index-apps-pair.result g.R.AggregateRecorder.history g.R.AggregateRecorder.stable g.R.AggregateRecorder.settled g.met.R.AggregateRecorder.settled_is_whole g.R.AggregateRecorder.snapshots g.R.AggregateRecorder.capacity base options _ s held c.args.notification.now next prompted rest u c.in-Err.fault
       (c.in-Err.ensures {u = tt}).used,
 )
 
@@ -22,7 +22,7 @@ returns-in-Err-convert-clause-followed g c = λ after may. (
   after,
   may,
   λ base options s prompted rest u held are next.
-      not-converted c.args.sys.now c.args.apps.now c.args.pair.now c.requires.pair c.index-apps-pair.result g.R.AggregateRecorder.history g.R.AggregateRecorder.snapshots g.R.AggregateRecorder.capacity base options _ s held c.args.notification.now next prompted rest u
+      not-converted c.args.sys.now c.args.apps.now c.args.pair.now c.requires.pair c.index-apps-pair.result g.R.AggregateRecorder.history g.R.AggregateRecorder.stable g.R.AggregateRecorder.settled g.met.R.AggregateRecorder.settled_is_whole g.R.AggregateRecorder.snapshots g.R.AggregateRecorder.capacity base options _ s held c.args.notification.now next prompted rest u
       (c.in-Ok.ensures {u = tt}).left c.in-Err-convert.fault (c.in-Err-convert.ensures {u = tt}).converts,
 )
 

@@ -28,8 +28,8 @@ returns-in-Ok-clause-answered g c = λ after may.
       λ base options s line u asks held.
           let asked = c.requires.asked in
           let named = found-name c.args.apps.now c.args.place c.index-apps-place.result asked.app asked.there in
-          request_replied g.R.AggregateRecorder.history g.R.AggregateRecorder.snapshots g.R.AggregateRecorder.capacity c.args.apps.now c.requires.apps.distinct c.args.place (get_or c.args.apps.now c.args.place c.index-apps-place.result) c.answer.new.self (found-at c.args.apps.now c.args.place c.index-apps-place.result asked.app asked.there) c.answer.ensures.same.name
-          c.args.sys.now base options _ s held line u c.args.request.now (Some after) c.in-Ok.reply _ (asked.about ∙ ap Some (sym named)) c.answer.ensures.same.turns c.answer.ensures.same_used c.answer.ensures.same.room
+          request_replied g.R.AggregateRecorder.history g.R.AggregateRecorder.stable g.R.AggregateRecorder.settled g.met.R.AggregateRecorder.settled_is_whole g.R.AggregateRecorder.snapshots g.R.AggregateRecorder.capacity c.args.apps.now c.requires.apps.distinct c.args.place (get_or c.args.apps.now c.args.place c.index-apps-place.result) c.answer.new.self (found-at c.args.apps.now c.args.place c.index-apps-place.result asked.app asked.there) c.answer.ensures.same.name
+          c.args.sys.now base options _ s held line u c.args.request.now (Some after) c.in-Ok.reply _ (asked.about ∙ ap Some (sym named)) c.answer.ensures.same.turns c.answer.ensures.same_used c.answer.ensures.same.room (c.in-Ok.ensures {u = tt}).settles.whole
           (λ h q r told kept clock. (x.2 (logs_of s.contents.histories) h q r told kept clock).0) (λ h q r told kept clock. (x.2 (logs_of s.contents.histories) h q r told kept clock).1)
           (λ next holds. record { held = holds; prompts = prompted-placed (names_in c.args.apps.now) c.args.place _ c.in-Ok.reply (asked.there ∙ ap Some (sym named)) }),
     )
@@ -47,8 +47,9 @@ returns-in-Err-clause-answered g c = λ after may.
       λ base options s line u asks held.
           let asked = c.requires.asked in
           let named = found-name c.args.apps.now c.args.place c.index-apps-place.result asked.app asked.there in
-          request_failed g.R.AggregateRecorder.history g.R.AggregateRecorder.snapshots g.R.AggregateRecorder.capacity c.args.apps.now c.requires.apps.distinct c.args.place (get_or c.args.apps.now c.args.place c.index-apps-place.result) c.answer.new.self (found-at c.args.apps.now c.args.place c.index-apps-place.result asked.app asked.there) c.answer.ensures.same.name
-          c.args.sys.now base options _ s held line u c.args.request.now c.in-Err.fault (λ next prompted. Unit {0}) asks (asked.about ∙ ap Some (sym named)) (λ h q r told kept clock. (x.2 (logs_of s.contents.histories) h q r told kept clock).0),
+          request_failed g.R.AggregateRecorder.history g.R.AggregateRecorder.stable g.R.AggregateRecorder.settled g.met.R.AggregateRecorder.settled_is_whole g.R.AggregateRecorder.snapshots g.R.AggregateRecorder.capacity c.args.apps.now c.requires.apps.distinct c.args.place (get_or c.args.apps.now c.args.place c.index-apps-place.result) c.answer.new.self (found-at c.args.apps.now c.args.place c.index-apps-place.result asked.app asked.there) c.answer.ensures.same.name
+          c.args.sys.now base options _ s held line u c.args.request.now c.in-Err.fault (λ next prompted. Unit {0}) asks (asked.about ∙ ap Some (sym named)) (λ h q r told kept clock. (x.2 (logs_of s.contents.histories) h q r told kept clock).0)
+          c.answer.ensures.settles.grows,
     )
 
 pub returns-in-Err-clause-same : goal.returns-in-Err-clause-same

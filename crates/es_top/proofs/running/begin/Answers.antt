@@ -13,7 +13,7 @@ pub returns-in-Ok-None-clause-begun : goal.returns-in-Ok-None-clause-begun
 returns-in-Ok-None-clause-begun g c = λ opening r held.
     let none : ahead (rules_of c.args.sys.now).pairs opening.histories ≡ None = sym ((c.in-Ok-None.ensures {u = tt}).told opening limits (Some r) (state_of opening r) held) ∙ c.in-Ok-None.field-0-is in
     IfOk-weaker c.count_first.result _ _ (λ counts is. (none, is ∙ ap (lengths opening.histories) c.find_ahead.ensures.same.names))
-    (c.count_first.ensures.counted opening.histories (held_histories _ _ _ opening limits _ _ (state_of opening r) (c.find_ahead.ensures.holds opening limits (Some r) (state_of opening r) held)))
+    (c.count_first.ensures.counted opening.histories (held_histories _ _ _ _ opening limits _ _ (state_of opening r) (c.find_ahead.ensures.holds opening limits (Some r) (state_of opening r) held)))
 
 pub returns-in-Ok-None-clause-ended : goal.returns-in-Ok-None-clause-ended
 returns-in-Ok-None-clause-ended g c = λ opening r held. c.count_first.ensures.silent (ahead (rules_of c.args.sys.now).pairs opening.histories)

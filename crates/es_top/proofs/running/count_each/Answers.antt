@@ -2,7 +2,7 @@ use Rattle.std.proofs.Common.{◌≡◌, ℕ, List, Some, slice_get, ◌<◌, �
 use Rattle.es_model.specs.Rising.{with_item}
 use Rattle.es_process.specs.declared.faults.RunFault.TheVariants as fault
 use Rattle.es_process.specs.Standing.{AreDistinct, names_in}
-use Rattle.es_process.proofs.HoldsLemmas.{alike-same, contents-set, name-at, all-set, all-then, rose-set, rose-then}
+use Rattle.es_process.proofs.HoldsLemmas.{contents-same, name-at, all-set, all-then, rose-set, rose-then}
 use Rattle.es_process.proofs.SetLemmas.{get-same}
 use Rattle.es_top.specs.inner.Counts.{more_than}
 use Rattle.es_top.proofs.CountLemmas.{counted-more, get-below, get-there, length-at, same-length}
@@ -19,9 +19,7 @@ loop-place-preserved g c =
       known = same-length c.loop-place.apps (c.loop-place.place - 1) c.count_one.new.app ∙ c.loop-place.invariant.known;
       holds = λ base k held.
           let now = c.loop-place.invariant.holds base k held in
-          let one = now.each (c.loop-place.place - 1) (get_or c.loop-place.apps (c.loop-place.place - 1) c.index-apps-place.result) (get-there c.loop-place.apps (c.loop-place.place - 1) c.index-apps-place.result below) in
-          contents-set c.loop-place.apps distinct (c.loop-place.place - 1) (get_or c.loop-place.apps (c.loop-place.place - 1) c.index-apps-place.result) c.count_one.new.app (get-there c.loop-place.apps (c.loop-place.place - 1) c.index-apps-place.result below) c.count_one.ensures.same.stays.name g.R.AggregateRecorder.history g.R.AggregateRecorder.snapshots base k k now
-          (record { recordings = c.count_one.ensures.same.told ∙ one.told; snapshots = c.count_one.ensures.same.kept ∙ one.told_snapshots }) (alike-same (get_or c.loop-place.apps (c.loop-place.place - 1) c.index-apps-place.result).name k);
+          contents-same c.loop-place.apps distinct (c.loop-place.place - 1) (get_or c.loop-place.apps (c.loop-place.place - 1) c.index-apps-place.result) c.count_one.new.app (get-there c.loop-place.apps (c.loop-place.place - 1) c.index-apps-place.result below) c.count_one.ensures.same.stays.name g.R.AggregateRecorder.history g.R.AggregateRecorder.stable g.R.AggregateRecorder.snapshots base k now c.count_one.ensures.same.told c.count_one.ensures.same.kept c.count_one.ensures.stable;
       counted = λ base k held before.
           let now = c.loop-place.invariant.holds base k held in
           let next : c.loop-place.place ≡ suc (c.loop-place.place - 1) = omega (arith, c.loop-place-test.true) in
@@ -39,9 +37,7 @@ returns-in-Err-clause-holds g c =
     let distinct = subst AreDistinct (sym c.loop-place.invariant.same.names) c.requires.distinct in
     λ base k held.
     let now = c.loop-place.invariant.holds base k held in
-    let one = now.each (c.loop-place.place - 1) (get_or c.loop-place.apps (c.loop-place.place - 1) c.index-apps-place.result) (get-there c.loop-place.apps (c.loop-place.place - 1) c.index-apps-place.result below) in
-    contents-set c.loop-place.apps distinct (c.loop-place.place - 1) (get_or c.loop-place.apps (c.loop-place.place - 1) c.index-apps-place.result) c.count_one.new.app (get-there c.loop-place.apps (c.loop-place.place - 1) c.index-apps-place.result below) c.count_one.ensures.same.stays.name g.R.AggregateRecorder.history g.R.AggregateRecorder.snapshots base k k now
-    (record { recordings = c.count_one.ensures.same.told ∙ one.told; snapshots = c.count_one.ensures.same.kept ∙ one.told_snapshots }) (alike-same (get_or c.loop-place.apps (c.loop-place.place - 1) c.index-apps-place.result).name k)
+    contents-same c.loop-place.apps distinct (c.loop-place.place - 1) (get_or c.loop-place.apps (c.loop-place.place - 1) c.index-apps-place.result) c.count_one.new.app (get-there c.loop-place.apps (c.loop-place.place - 1) c.index-apps-place.result below) c.count_one.ensures.same.stays.name g.R.AggregateRecorder.history g.R.AggregateRecorder.stable g.R.AggregateRecorder.snapshots base k now c.count_one.ensures.same.told c.count_one.ensures.same.kept c.count_one.ensures.stable
 
 pub returns-in-Err-clause-same : goal.returns-in-Err-clause-same
 returns-in-Err-clause-same g c =

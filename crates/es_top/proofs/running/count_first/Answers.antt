@@ -9,7 +9,7 @@ use Rattle.es_top.proofs.OpeningLemmas.{kept_more, names_length, told_at}
 use Rattle.es_top.proofs.running.count_first.Goals as goal
 
 pub returns-in-Err-clause-kept : goal.returns-in-Err-clause-kept
-returns-in-Err-clause-kept g c = kept_more g.R.AggregateRecorder.history g.R.AggregateRecorder.capacity g.R.AggregateRecorder.snapshots g.R.AggregateRecorder.faults c.args.apps.now c.loop-app.apps c.loop-app.app-index (get_or c.loop-app.apps c.loop-app.app-index c.app-item.result) c.push_count.new.app c.loop-app.invariant.kept (slice_get-get_or c.loop-app.apps c.loop-app.app-index c.app-item.result (omega arith)) c.push_count.ensures.same
+returns-in-Err-clause-kept g c = kept_more g.R.AggregateRecorder.history g.R.AggregateRecorder.settled g.R.AggregateRecorder.capacity g.R.AggregateRecorder.snapshots g.R.AggregateRecorder.faults c.args.apps.now c.loop-app.apps c.loop-app.app-index (get_or c.loop-app.apps c.loop-app.app-index c.app-item.result) c.push_count.new.app c.loop-app.invariant.kept (slice_get-get_or c.loop-app.apps c.loop-app.app-index c.app-item.result (omega arith)) c.push_count.ensures.same
 
 pub returns-in-Err-clause-recorder : goal.returns-in-Err-clause-recorder
 returns-in-Err-clause-recorder g c = λ is.
@@ -19,10 +19,10 @@ returns-in-Err-clause-recorder g c = λ is.
 
 pub loop-app-preserved : goal.loop-app-preserved
 loop-app-preserved g c = record {
-  kept = kept_more g.R.AggregateRecorder.history g.R.AggregateRecorder.capacity g.R.AggregateRecorder.snapshots g.R.AggregateRecorder.faults c.args.apps.now c.loop-app.apps c.loop-app.app-index (get_or c.loop-app.apps c.loop-app.app-index c.app-item.result) c.push_count.new.app c.loop-app.invariant.kept (slice_get-get_or c.loop-app.apps c.loop-app.app-index c.app-item.result (omega arith)) c.push_count.ensures.same;
+  kept = kept_more g.R.AggregateRecorder.history g.R.AggregateRecorder.settled g.R.AggregateRecorder.capacity g.R.AggregateRecorder.snapshots g.R.AggregateRecorder.faults c.args.apps.now c.loop-app.apps c.loop-app.app-index (get_or c.loop-app.apps c.loop-app.app-index c.app-item.result) c.push_count.new.app c.loop-app.invariant.kept (slice_get-get_or c.loop-app.apps c.loop-app.app-index c.app-item.result (omega arith)) c.push_count.ensures.same;
   each = omega (arith, (c.in-Ok.ensures {u = tt}).one, c.loop-app.invariant.each);
   counted = λ h tells.
-      let one = told_at g.R.AggregateRecorder.history g.R.AggregateRecorder.capacity g.R.AggregateRecorder.snapshots g.R.AggregateRecorder.faults h c.args.apps.now c.loop-app.apps c.loop-app.app-index (get_or c.loop-app.apps c.loop-app.app-index c.app-item.result) c.loop-app.invariant.kept tells (slice_get-get_or c.loop-app.apps c.loop-app.app-index c.app-item.result (omega arith)) in
+      let one = told_at g.R.AggregateRecorder.history g.R.AggregateRecorder.settled g.R.AggregateRecorder.capacity g.R.AggregateRecorder.snapshots g.R.AggregateRecorder.faults h c.args.apps.now c.loop-app.apps c.loop-app.app-index (get_or c.loop-app.apps c.loop-app.app-index c.app-item.result) c.loop-app.invariant.kept tells (slice_get-get_or c.loop-app.apps c.loop-app.app-index c.app-item.result (omega arith)) in
       lengths-more h (names_in c.args.apps.now) c.loop-app.app-index (name_of (get_or c.loop-app.apps c.loop-app.app-index c.app-item.result)) c.loop-app.counts.items c.push_count.new.counts.items one.1 (c.loop-app.invariant.counted h tells) ((c.in-Ok.ensures {u = tt}).counted (h (name_of (get_or c.loop-app.apps c.loop-app.app-index c.app-item.result))) one.0);
 }
 

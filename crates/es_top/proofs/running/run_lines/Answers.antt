@@ -31,7 +31,7 @@ end_by-result-requires-clause-each g c = c.requires.each ∙ sym (names_length c
 
 pub returns-in_default-clause-traced : goal.returns-in_default-clause-traced
 returns-in_default-clause-traced g c = of_input _ _ _ (λ i r opening none before held.
-    part_none (terms_of c.args.sys) opening r i (HoldContents g.R.AggregateRecorder.history g.R.AggregateRecorder.snapshots opening c.args.apps.items) _ _ (held-contents _ _ _ opening limits _ _ (state_of opening r) held) refl)
+    part_none (terms_of c.args.sys) opening r i (HoldContents g.R.AggregateRecorder.history g.R.AggregateRecorder.stable g.R.AggregateRecorder.snapshots opening c.args.apps.items) _ _ (held-contents _ _ _ g.met.R.AggregateRecorder.settled_is_whole _ _ opening limits _ _ (state_of opening r) held) refl)
 
 -- the applications that end the run are those that the runner had
 lent_are : (g : given.Over) (c : goal.After-apps-2-1 g) → c.as_mut_slice.result.now ≡ apps_of c.serve-stop.new.runner
@@ -78,16 +78,16 @@ returns-clause-traced g c =
       told = x.3;
       holds = λ opening none before held.
           let stay = lent_stay g c in
-          let serves = x.4.0 opening limits (state_of opening x.1) (subst (λ (xs : List (Application g.row.R.Denot)). Holds g.R.AggregateRecorder.history g.R.AggregateRecorder.snapshots g.R.AggregateRecorder.capacity opening limits xs (Some x.1) (state_of opening x.1)) (sym c.new-runner.ensures.applications) held) in
-          runs_held (terms_of c.args.sys) opening x.1 x.0 (HoldContents g.R.AggregateRecorder.history g.R.AggregateRecorder.snapshots opening (apps_of c.serve-stop.new.runner)) (HoldContents g.R.AggregateRecorder.history g.R.AggregateRecorder.snapshots opening (closing g c))
-          (λ k so. subst (λ (xs : List (Application g.row.R.Denot)). HoldContents g.R.AggregateRecorder.history g.R.AggregateRecorder.snapshots opening xs k) (sym (items_are g c)) (c.end_by-result.ensures.holds opening k (subst (λ (xs : List (Application g.row.R.Denot)). HoldContents g.R.AggregateRecorder.history g.R.AggregateRecorder.snapshots opening xs k) (sym (lent_are g c)) so)))
+          let serves = x.4.0 opening limits (state_of opening x.1) (subst (λ (xs : List (Application g.row.R.Denot)). Holds g.R.AggregateRecorder.history g.R.AggregateRecorder.settled g.R.AggregateRecorder.snapshots g.R.AggregateRecorder.capacity opening limits xs (Some x.1) (state_of opening x.1)) (sym c.new-runner.ensures.applications) held) in
+          runs_held (terms_of c.args.sys) opening x.1 x.0 (HoldContents g.R.AggregateRecorder.history g.R.AggregateRecorder.stable g.R.AggregateRecorder.snapshots opening (apps_of c.serve-stop.new.runner)) (HoldContents g.R.AggregateRecorder.history g.R.AggregateRecorder.stable g.R.AggregateRecorder.snapshots opening (closing g c))
+          (λ k so. subst (λ (xs : List (Application g.row.R.Denot)). HoldContents g.R.AggregateRecorder.history g.R.AggregateRecorder.stable g.R.AggregateRecorder.snapshots opening xs k) (sym (items_are g c)) (c.end_by-result.ensures.holds opening k (subst (λ (xs : List (Application g.row.R.Denot)). HoldContents g.R.AggregateRecorder.history g.R.AggregateRecorder.stable g.R.AggregateRecorder.snapshots opening xs k) (sym (lent_are g c)) so)))
           (g.T.Sink.written c.args.out.now) (g.T.Sink.written c.serve-stop.new.out) (Some b.1) c.end_by-result.result
-          (served_runs c.args.sys opening x.1 x.0 (HoldContents g.R.AggregateRecorder.history g.R.AggregateRecorder.snapshots opening (apps_of c.serve-stop.new.runner)) (g.T.Sink.written c.args.out.now) (g.T.Sink.written c.serve-stop.new.out) none (Some b.1)
-          (λ next. HoldsPrompted g.R.AggregateRecorder.history g.R.AggregateRecorder.snapshots g.R.AggregateRecorder.capacity opening limits c.serve-stop.new.runner (Some after.0) next []) c.serve-stop.result.0 c.serve-stop.result.1 c.end_by-result.result
-          (λ n h. held-contents _ _ _ opening limits _ _ n h.holds)
+          (served_runs c.args.sys opening x.1 x.0 (HoldContents g.R.AggregateRecorder.history g.R.AggregateRecorder.stable g.R.AggregateRecorder.snapshots opening (apps_of c.serve-stop.new.runner)) (g.T.Sink.written c.args.out.now) (g.T.Sink.written c.serve-stop.new.out) none (Some b.1)
+          (λ next. HoldsPrompted g.R.AggregateRecorder.history g.R.AggregateRecorder.settled g.R.AggregateRecorder.snapshots g.R.AggregateRecorder.capacity opening limits c.serve-stop.new.runner (Some after.0) next []) c.serve-stop.result.0 c.serve-stop.result.1 c.end_by-result.result
+          (λ n h. held-contents _ _ _ g.met.R.AggregateRecorder.settled_is_whole _ _ opening limits _ _ n h.holds)
           (λ k so. subst (λ names. EndsBy (in_order (more_than opening.histories k.histories) names) c.serve-stop.result.0 c.serve-stop.result.1 c.end_by-result.result) (stay.names ∙ c.requires.apps.named)
-          (c.end_by-result.ensures.ends opening k (subst (λ (xs : List (Application g.row.R.Denot)). HoldContents g.R.AggregateRecorder.history g.R.AggregateRecorder.snapshots opening xs k) (sym (lent_are g c)) so) (before ∙ ap (lengths opening.histories) (sym stay.names))))
+          (c.end_by-result.ensures.ends opening k (subst (λ (xs : List (Application g.row.R.Denot)). HoldContents g.R.AggregateRecorder.history g.R.AggregateRecorder.stable g.R.AggregateRecorder.snapshots opening xs k) (sym (lent_are g c)) so) (before ∙ ap (lengths opening.histories) (sym stay.names))))
           (λ is. (b.1, refl, subst (Taken x.0 c.serve-stop.result.1) (b.4 is) (x.4.1 is)))
-          (subst (λ ls. Serves (terms_of c.args.sys) (state_of opening x.1) (λ next. HoldsPrompted g.R.AggregateRecorder.history g.R.AggregateRecorder.snapshots g.R.AggregateRecorder.capacity opening limits c.serve-stop.new.runner (Some after.0) next []) ls c.serve-stop.result.0 c.serve-stop.result.1 (HoldContents g.R.AggregateRecorder.history g.R.AggregateRecorder.snapshots opening (apps_of c.serve-stop.new.runner)) (g.T.Sink.written c.args.out.now) (g.T.Sink.written c.serve-stop.new.out)) (made.lines_from x.0)
-          (subst (λ sys. Serves (terms (rules_of sys) limits) (state_of opening x.1) (λ next. HoldsPrompted g.R.AggregateRecorder.history g.R.AggregateRecorder.snapshots g.R.AggregateRecorder.capacity opening limits c.serve-stop.new.runner (Some after.0) next []) (lines_from c.new-reader.result x.0) c.serve-stop.result.0 c.serve-stop.result.1 (HoldContents g.R.AggregateRecorder.history g.R.AggregateRecorder.snapshots opening (apps_of c.serve-stop.new.runner)) (g.T.Sink.written c.args.out.now) (g.T.Sink.written c.serve-stop.new.out)) c.new-runner.ensures.system serves)));
+          (subst (λ ls. Serves (terms_of c.args.sys) (state_of opening x.1) (λ next. HoldsPrompted g.R.AggregateRecorder.history g.R.AggregateRecorder.settled g.R.AggregateRecorder.snapshots g.R.AggregateRecorder.capacity opening limits c.serve-stop.new.runner (Some after.0) next []) ls c.serve-stop.result.0 c.serve-stop.result.1 (HoldContents g.R.AggregateRecorder.history g.R.AggregateRecorder.stable g.R.AggregateRecorder.snapshots opening (apps_of c.serve-stop.new.runner)) (g.T.Sink.written c.args.out.now) (g.T.Sink.written c.serve-stop.new.out)) (made.lines_from x.0)
+          (subst (λ sys. Serves (terms (rules_of sys) limits) (state_of opening x.1) (λ next. HoldsPrompted g.R.AggregateRecorder.history g.R.AggregateRecorder.settled g.R.AggregateRecorder.snapshots g.R.AggregateRecorder.capacity opening limits c.serve-stop.new.runner (Some after.0) next []) (lines_from c.new-reader.result x.0) c.serve-stop.result.0 c.serve-stop.result.1 (HoldContents g.R.AggregateRecorder.history g.R.AggregateRecorder.stable g.R.AggregateRecorder.snapshots opening (apps_of c.serve-stop.new.runner)) (g.T.Sink.written c.args.out.now) (g.T.Sink.written c.serve-stop.new.out)) c.new-runner.ensures.system serves)));
     }

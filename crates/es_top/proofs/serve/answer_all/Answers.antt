@@ -34,7 +34,7 @@ loop-count-preserved g c = record {
         (
           λ base options s n u begun held.
               let so = p.4.0 base options s n u begun held in
-              one_answered (terms (rules_of (system_of c.args.runner.now)) options) s _ (lines_from c.args.lines.now p.0) (lines_from c.loop-count.lines t.0) c.loop-count.count u _ so _ _ (HoldContents g.R.AggregateRecorder.history g.R.AggregateRecorder.snapshots base (apps_of c.turn.new.runner)) (lines_from c.turn.new.lines b) (turn_same _ _ c.loop-count.invariant.same.system options so.state (λ next. HoldsPrompted g.R.AggregateRecorder.history g.R.AggregateRecorder.snapshots g.R.AggregateRecorder.capacity base options c.turn.new.runner (Some after) next []) (lines_from c.loop-count.lines t.0) (lines_from c.turn.new.lines b) (HoldContents g.R.AggregateRecorder.history g.R.AggregateRecorder.snapshots base (apps_of c.turn.new.runner)) (g.T.Sink.written c.loop-count.out) (g.T.Sink.written c.turn.new.out) (Ok tt) (t.4.0 base options so.state so.held)),
+              one_answered (terms (rules_of (system_of c.args.runner.now)) options) s _ (lines_from c.args.lines.now p.0) (lines_from c.loop-count.lines t.0) c.loop-count.count u _ so _ _ (HoldContents g.R.AggregateRecorder.history g.R.AggregateRecorder.stable g.R.AggregateRecorder.snapshots base (apps_of c.turn.new.runner)) (lines_from c.turn.new.lines b) (turn_same _ _ c.loop-count.invariant.same.system options so.state (λ next. HoldsPrompted g.R.AggregateRecorder.history g.R.AggregateRecorder.settled g.R.AggregateRecorder.snapshots g.R.AggregateRecorder.capacity base options c.turn.new.runner (Some after) next []) (lines_from c.loop-count.lines t.0) (lines_from c.turn.new.lines b) (HoldContents g.R.AggregateRecorder.history g.R.AggregateRecorder.stable g.R.AggregateRecorder.snapshots base (apps_of c.turn.new.runner)) (g.T.Sink.written c.loop-count.out) (g.T.Sink.written c.turn.new.out) (Ok tt) (t.4.0 base options so.state so.held)),
           counted_more p.0 c.loop-count.count t.0 _ _ p.4.1 b t.4.1,
         ),
       );
@@ -58,7 +58,7 @@ returns-in-Err-clause-answered g c = λ b after left may.
         λ base options s n u begun held.
             let so = p.4.0 base options s n u begun held in
             stopped (terms (rules_of (system_of c.args.runner.now)) options) s _ (lines_from c.args.lines.now p.0) (lines_from c.loop-count.lines t.0) c.loop-count.count u _ so _ (lines_from c.turn.new.lines b) c.in-Err.stop _ _
-            (λ m h. held-contents _ _ _ base options _ _ m h.holds) (turn_same _ _ c.loop-count.invariant.same.system options so.state (λ next. HoldsPrompted g.R.AggregateRecorder.history g.R.AggregateRecorder.snapshots g.R.AggregateRecorder.capacity base options c.turn.new.runner (Some after) next []) (lines_from c.loop-count.lines t.0) (lines_from c.turn.new.lines b) (HoldContents g.R.AggregateRecorder.history g.R.AggregateRecorder.snapshots base (apps_of c.turn.new.runner)) (g.T.Sink.written c.loop-count.out) (g.T.Sink.written c.turn.new.out) (Err c.in-Err.stop) (t.4.0 base options so.state so.held)),
+            (λ m h. held-contents _ _ _ g.met.R.AggregateRecorder.settled_is_whole _ _ base options _ _ m h.holds) (turn_same _ _ c.loop-count.invariant.same.system options so.state (λ next. HoldsPrompted g.R.AggregateRecorder.history g.R.AggregateRecorder.settled g.R.AggregateRecorder.snapshots g.R.AggregateRecorder.capacity base options c.turn.new.runner (Some after) next []) (lines_from c.loop-count.lines t.0) (lines_from c.turn.new.lines b) (HoldContents g.R.AggregateRecorder.history g.R.AggregateRecorder.stable g.R.AggregateRecorder.snapshots base (apps_of c.turn.new.runner)) (g.T.Sink.written c.loop-count.out) (g.T.Sink.written c.turn.new.out) (Err c.in-Err.stop) (t.4.0 base options so.state so.held)),
         λ is. counted_taken p.0 c.loop-count.count t.0 (subst (λ e. Counted p.0 c.loop-count.count t.0 e) (c.turn.ensures.not_ended (c.in-Err.is ∙ ap Err is)) p.4.1) b (t.4.2 (ap Err is)),
       ),
     )

@@ -17,8 +17,8 @@ abbrev pub invariant-loop-count : goal.invariant-loop-count
 invariant-loop-count g l = record {
   goes : LinesTraced g.S.Source.left l.initial.lines l.lines (g.C.Clock.readings l.initial.clock) (g.C.Clock.readings l.clock) (λ a b before after. (
       (base : Contents) (options : Options) (s n : State) (u : Option (List ℕ)) → Begun (terms (rules_of (system_of l.initial.runner)) options) s n u (g.T.Sink.written l.initial.out)
-      → HoldsPrompted g.R.AggregateRecorder.history g.R.AggregateRecorder.snapshots g.R.AggregateRecorder.capacity base options l.initial.runner before n []
-      → Answered (terms (rules_of (system_of l.initial.runner)) options) s (λ next. HoldsPrompted g.R.AggregateRecorder.history g.R.AggregateRecorder.snapshots g.R.AggregateRecorder.capacity base options l.runner after next []) (lines_from l.initial.lines a) (lines_from l.lines b) l.count u (g.T.Sink.written l.out))
+      → HoldsPrompted g.R.AggregateRecorder.history g.R.AggregateRecorder.settled g.R.AggregateRecorder.snapshots g.R.AggregateRecorder.capacity base options l.initial.runner before n []
+      → Answered (terms (rules_of (system_of l.initial.runner)) options) s (λ next. HoldsPrompted g.R.AggregateRecorder.history g.R.AggregateRecorder.settled g.R.AggregateRecorder.snapshots g.R.AggregateRecorder.capacity base options l.runner after next []) (lines_from l.initial.lines a) (lines_from l.lines b) l.count u (g.T.Sink.written l.out))
       × Counted a l.count b (has_ended l.lines));
   clear : fault_of l.lines ≡ None;
   room : l.count + room_of l.lines ≤ room_of l.initial.lines;

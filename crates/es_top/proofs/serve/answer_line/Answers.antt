@@ -26,7 +26,7 @@ returns-in-Err-clause-answered g c = λ after may. (
   after,
   may,
   λ base options s held.
-      line_refused (system_of c.args.runner.now) options s c.args.line.now _ (HoldContents g.R.AggregateRecorder.history g.R.AggregateRecorder.snapshots base (apps_of c.args.runner.now)) c.in-Err.fault _ _ c.refuse.result (subst (λ sys. Answered (request_in sys c.args.line.now) (Err c.in-Err.fault)) c.system.ensures ((c.in-Err.ensures {u = tt}).request)) c.refuse.ensures.starved c.refuse.ensures.said held (held-contents _ _ _ base options _ _ s held.holds),
+      line_refused (system_of c.args.runner.now) options s c.args.line.now _ (HoldContents g.R.AggregateRecorder.history g.R.AggregateRecorder.stable g.R.AggregateRecorder.snapshots base (apps_of c.args.runner.now)) c.in-Err.fault _ _ c.refuse.result (subst (λ sys. Answered (request_in sys c.args.line.now) (Err c.in-Err.fault)) c.system.ensures ((c.in-Err.ensures {u = tt}).request)) c.refuse.ensures.starved c.refuse.ensures.said held (held-contents _ _ _ g.met.R.AggregateRecorder.settled_is_whole _ _ base options _ _ s held.holds),
 )
 
 pub returns-in-Err-clause-tells : goal.returns-in-Err-clause-tells

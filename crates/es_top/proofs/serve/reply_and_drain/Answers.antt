@@ -21,7 +21,7 @@ returns-in-Err-clause-replied g c = λ after may. (
   after,
   may,
   λ base options s prompted held.
-      unreplied (terms (rules_of (system_of c.args.runner.now)) options) s _ (HoldContents g.R.AggregateRecorder.history g.R.AggregateRecorder.snapshots base (apps_of c.args.runner.now)) prompted c.args.reply.now _ _ c.in-Err.stop (c.in-Err.ensures {u = tt}).said (held-contents _ _ _ base options _ _ s held.holds),
+      unreplied (terms (rules_of (system_of c.args.runner.now)) options) s _ (HoldContents g.R.AggregateRecorder.history g.R.AggregateRecorder.stable g.R.AggregateRecorder.snapshots base (apps_of c.args.runner.now)) prompted c.args.reply.now _ _ c.in-Err.stop (c.in-Err.ensures {u = tt}).said (held-contents _ _ _ g.met.R.AggregateRecorder.settled_is_whole _ _ base options _ _ s held.holds),
 )
 
 pub returns-in-Ok-clause-stops : goal.returns-in-Ok-clause-stops

@@ -20,8 +20,8 @@ returns-in-Ok-clause-served g c = λ b after left may.
       (
         λ base options s held.
             let x = d.2 base options s (g.T.Sink.written c.args.out.now) held in
-            serve_same (system_of c.args.runner.now) _ c.first.ensures.same.system options s x.state (λ next. HoldsPrompted g.R.AggregateRecorder.history g.R.AggregateRecorder.snapshots g.R.AggregateRecorder.capacity base options c.answer_all.new.runner (Some after) next []) (lines_from c.args.lines.now a.0) c.answer_all.result.0 c.answer_all.result.1 (HoldContents g.R.AggregateRecorder.history g.R.AggregateRecorder.snapshots base (apps_of c.answer_all.new.runner)) (g.T.Sink.written c.args.out.now) (g.T.Sink.written c.args.out.now) (g.T.Sink.written c.answer_all.new.out)
-            (λ y. a.4.0 base options s x.state (g.T.Sink.written c.args.out.now) y x.held) (begun (terms (rules_of (system_of c.args.runner.now)) options) s _ (HoldContents g.R.AggregateRecorder.history g.R.AggregateRecorder.snapshots base (apps_of c.first.new.self)) (g.T.Sink.written c.args.out.now) tt x),
+            serve_same (system_of c.args.runner.now) _ c.first.ensures.same.system options s x.state (λ next. HoldsPrompted g.R.AggregateRecorder.history g.R.AggregateRecorder.settled g.R.AggregateRecorder.snapshots g.R.AggregateRecorder.capacity base options c.answer_all.new.runner (Some after) next []) (lines_from c.args.lines.now a.0) c.answer_all.result.0 c.answer_all.result.1 (HoldContents g.R.AggregateRecorder.history g.R.AggregateRecorder.stable g.R.AggregateRecorder.snapshots base (apps_of c.answer_all.new.runner)) (g.T.Sink.written c.args.out.now) (g.T.Sink.written c.args.out.now) (g.T.Sink.written c.answer_all.new.out)
+            (λ y. a.4.0 base options s x.state (g.T.Sink.written c.args.out.now) y x.held) (begun (terms (rules_of (system_of c.args.runner.now)) options) s _ (HoldContents g.R.AggregateRecorder.history g.R.AggregateRecorder.stable g.R.AggregateRecorder.snapshots base (apps_of c.first.new.self)) (g.T.Sink.written c.args.out.now) tt x),
         a.4.1,
       ),
     )

@@ -50,7 +50,7 @@ returns-in-Ok-Long-clause-turned g c = λ b after left may.
       (
         λ base options s held.
             turned (terms (rules_of (system_of c.args.runner.now)) options) s _ (lines_from c.args.lines.now z.before) (lines_from c.next.new.self b) long _ _ _ c.say.result (λ is. absurd (cc is)) z.first (saying_tells c.say.result c.say.ensures.stops)
-            (said_only (terms (rules_of (system_of c.args.runner.now)) options) s _ (HoldContents g.R.AggregateRecorder.history g.R.AggregateRecorder.snapshots base (apps_of c.args.runner.now)) long Long _ _ c.say.result (too_long (terms (rules_of (system_of c.args.runner.now)) options) s) c.say.ensures.said held (held-contents _ _ _ base options _ _ s held.holds)),
+            (said_only (terms (rules_of (system_of c.args.runner.now)) options) s _ (HoldContents g.R.AggregateRecorder.history g.R.AggregateRecorder.stable g.R.AggregateRecorder.snapshots base (apps_of c.args.runner.now)) long Long _ _ c.say.result (too_long (terms (rules_of (system_of c.args.runner.now)) options) s) c.say.ensures.said held (held-contents _ _ _ g.met.R.AggregateRecorder.settled_is_whole _ _ base options _ _ s held.holds)),
         on_ok c.say.result used,
         λ is. not_said (subst (λ r. IfErr r IsSaying) is c.say.ensures.stops),
       ),

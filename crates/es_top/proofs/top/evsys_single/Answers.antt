@@ -14,9 +14,10 @@ use Rattle.es_lines.specs.declared.ends.End.TheVariants as end
 use Rattle.es_top.specs.Declares.{IsEndUnasked, declares, declares_for}
 use Rattle.es_top.specs.Ends.{end_of_load, ended, Writes}
 use Rattle.es_top.specs.Loads.{TakesDocument}
-use Rattle.es_top.specs.Top.{AheadExactly, Ran, StoresTell}
+use Rattle.es_top.specs.Top.{AheadExactly, Ran, Restarts, StoresTell}
 use Rattle.es_top.proofs.EndLemmas.{ahead_cut, early_front, ran_consistent, ran_weaker, usage_front, writes_so}
 use Rattle.es_top.proofs.DeclaresLemmas.{asked, fault_ran, fault_unasked, loaded_same, refused_so, stopped_fault}
+use Rattle.es_top.proofs.StableLemmas.{restarts_same}
 use Rattle.es_top.proofs.TopLemmas.{of_input, of_then}
 use Rattle.es_top.proofs.top.evsys_single.Given as given
 use Rattle.es_top.proofs.top.evsys_single.Goals as goal
@@ -116,3 +117,14 @@ returns-in-Err-clause-ahead g c = λ sys h is held. ahead_cut (ahead (rules_of s
 pub returns-in_default-clause-ahead : goal.returns-in_default-clause-ahead
 returns-in_default-clause-ahead g c = λ sys h is held.
     let clash : None ≡ Some (Ok sys) = subst (λ o. declares_for (g.D.Source.documents c.args.system.now) o ≡ Some (Ok sys)) (sym (c.in_default.ensures {u = tt})) is in absurd (cc clash)
+
+-- that no follower comes ahead of what is stable
+pub returns-in-Ok-clause-restarts : goal.returns-in-Ok-clause-restarts
+returns-in-Ok-clause-restarts g c = λ sys is. subst (λ x. Restarts (rules_of x).pairs (g.M.Stores.held c.args.stores.now) (g.M.Stores.stable c.args.stores.now) (g.M.Stores.snapshots c.args.stores.now) (g.M.Stores.held c.run_to_end.new.stores) (g.M.Stores.stable c.run_to_end.new.stores)) (same_system g c sys is)
+    c.run_to_end.ensures.restarts
+
+pub returns-in-Err-clause-restarts : goal.returns-in-Err-clause-restarts
+returns-in-Err-clause-restarts g c = λ sys is. restarts_same (rules_of sys).pairs _ _ _ _ _ refl refl
+
+pub returns-in_default-clause-restarts : goal.returns-in_default-clause-restarts
+returns-in_default-clause-restarts g c = λ sys is. restarts_same (rules_of sys).pairs _ _ _ _ _ refl refl

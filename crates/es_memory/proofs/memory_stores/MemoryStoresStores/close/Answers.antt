@@ -15,6 +15,13 @@ returns-then-index-clause-closed c =
     let given : c.into_parts-history.result.0 ≡ c.args.recorder.history = cc c.into_parts-history.ensures.history in
     closes _ _ _ _ _ raised (histories-set _ _ _ _ _ entry refl ∙ ap (λ (x : List Recording). put (histories_of c.args.self.now.contents.items) c.args.app.now x) given)
 
+pub returns-then-index-clause-closed_stable : goal.returns-then-index-clause-closed_stable
+returns-then-index-clause-closed_stable c =
+    let entry = found c.args.self.now.contents.items _ c.place-at.result c.index_mut-entry.result.now c.args.app.now c.as_slice.ensures.value c.place-at.ensures.place (omega arith) c.index_mut-entry.ensures.value in
+    let raised = flag-place c.args.self.now.contents.items _ c.args.self.now.out.items _ c.args.app.now true c.as_slice.ensures.value c.place-at.ensures.place (get_or-default c.args.self.now.out.items c.place-at.result _ _ (omega arith) ∙ sym c.index.ensures ∙ c.if-index.true) in
+    let given : c.into_parts-history.result.0 ≡ c.args.recorder.history = cc c.into_parts-history.ensures.history in
+    closes _ _ _ _ _ raised (histories-set _ _ _ _ _ entry refl ∙ ap (λ (x : List Recording). put (histories_of c.args.self.now.contents.items) c.args.app.now x) given)
+
 pub returns-then-index-clause-closed_snapshots : goal.returns-then-index-clause-closed_snapshots
 returns-then-index-clause-closed_snapshots c =
     let entry = found c.args.self.now.contents.items _ c.place-at.result c.index_mut-entry.result.now c.args.app.now c.as_slice.ensures.value c.place-at.ensures.place (omega arith) c.index_mut-entry.ensures.value in

@@ -34,6 +34,12 @@ returns-clause-others c = λ x.
     ∙ put-put _ c.args.app.now x _
     ∙ ap (λ (h : Name → List Recording). put h c.args.app.now x) c.entry_of.ensures.histories
 
+pub returns-clause-other_stable : goal.returns-clause-other_stable
+returns-clause-other_stable c = λ x.
+    ap (λ (h : Name → List Recording). put h c.args.app.now x) (histories-set _ _ _ _ _ (entry c) c.take_out.ensures.app)
+    ∙ put-put _ c.args.app.now x _
+    ∙ ap (λ (h : Name → List Recording). put h c.args.app.now x) c.entry_of.ensures.histories
+
 pub returns-clause-other_snapshots : goal.returns-clause-other_snapshots
 returns-clause-other_snapshots c = λ x.
     ap (λ (h : Name → List Snapshot). put h c.args.app.now x) (snapshots-set _ _ _ _ _ (entry c) c.take_out.ensures.app)

@@ -7,6 +7,8 @@ pub loop-event-init : goal.loop-event-init
 loop-event-init g c = record {
   put = λ h q told kept. puts_none (rules_of c.args.sys.now) h q c.args.events.now _ _ told kept;
   same = stays_none c.args.self.now;
+  told = refl;
+  settled = refl;
   same_used = refl;
 }
 
@@ -17,6 +19,8 @@ loop-event-preserved g c = record {
       (puts_from (rules_of c.args.sys.now) h q c.args.events.now c.loop-event.event-index c.event-item.result _ _ (omega (arith, c.loop-event-test.true, c.loop-event.auto.event-index-end)) c.event-item.is (c.loop-event.invariant.put h q told kept))
       (c.in-Ok.ensures {u = tt}).puts;
   same = stays_then c.loop-event.invariant.same c.put_due.ensures.same;
+  told = c.put_due.ensures.told ∙ c.loop-event.invariant.told;
+  settled = c.put_due.ensures.settled ∙ c.loop-event.invariant.settled;
   same_used = c.put_due.ensures.same_used ∙ c.loop-event.invariant.same_used;
 }
 
@@ -28,6 +32,12 @@ returns-in-Err-clause-puts g c = λ h q told kept.
 
 pub returns-in-Err-clause-same : goal.returns-in-Err-clause-same
 returns-in-Err-clause-same g c = stays_then c.loop-event.invariant.same c.put_due.ensures.same
+
+pub returns-in-Err-clause-told : goal.returns-in-Err-clause-told
+returns-in-Err-clause-told g c = c.put_due.ensures.told ∙ c.loop-event.invariant.told
+
+pub returns-in-Err-clause-settled : goal.returns-in-Err-clause-settled
+returns-in-Err-clause-settled g c = c.put_due.ensures.settled ∙ c.loop-event.invariant.settled
 
 pub returns-in-Err-clause-same_used : goal.returns-in-Err-clause-same_used
 returns-in-Err-clause-same_used g c = c.put_due.ensures.same_used ∙ c.loop-event.invariant.same_used

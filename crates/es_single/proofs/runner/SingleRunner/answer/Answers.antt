@@ -19,7 +19,7 @@ returns-in_err-push_place-clause-answered g c = λ after may. (
   may,
   λ base options s line u asked held.
       let starved : c.from_residual.result ≡ Err fault.NoMemory = search rules in
-      starved_answer (terms (rules_of c.args.self.now.sys) options) s line c.args.request.now _ _ u c.from_residual.result starved (held-contents _ _ _ base options _ _ s held.holds),
+      starved_answer (terms (rules_of c.args.self.now.sys) options) s line c.args.request.now _ _ u c.from_residual.result starved (held-contents _ _ _ g.met.R.AggregateRecorder.settled_is_whole _ _ base options _ _ s held.holds),
 )
 
 pub answer_at-requires-clause-asked : goal.answer_at-requires-clause-asked
@@ -39,9 +39,9 @@ returns-in-Err-clause-answered g c = λ after may.
       x.0,
       x.1,
       λ base options s line u asked held.
-          subst (λ (xs : _). Faulted (terms (rules_of c.args.self.now.sys) options) (at_line s (text line)) c.in-Err.fault (HoldContents g.R.AggregateRecorder.history g.R.AggregateRecorder.snapshots base xs) u u) (sym written)
+          subst (λ (xs : _). Faulted (terms (rules_of c.args.self.now.sys) options) (at_line s (text line)) c.in-Err.fault (HoldContents g.R.AggregateRecorder.history g.R.AggregateRecorder.stable g.R.AggregateRecorder.snapshots base xs) u u) (sym written)
           (x.2 base options s line u asked
-          (subst (λ (xs : _). Holds g.R.AggregateRecorder.history g.R.AggregateRecorder.snapshots g.R.AggregateRecorder.capacity base options xs (Some x.0) s) (sym c.as_mut_slice-apps.ensures.value) held.holds)),
+          (subst (λ (xs : _). Holds g.R.AggregateRecorder.history g.R.AggregateRecorder.settled g.R.AggregateRecorder.snapshots g.R.AggregateRecorder.capacity base options xs (Some x.0) s) (sym c.as_mut_slice-apps.ensures.value) held.holds)),
     )
 
 pub returns-clause-answered : goal.returns-clause-answered
@@ -53,8 +53,8 @@ returns-clause-answered g c = λ after may.
       λ base options s line u asked held.
           let queue : c.push_place.new.queue.items ≡ c.place_of-place.result ∷ [] =
           c.in_ok-push_place.ensures {u = tt} ∙ ap (λ (places : List ℕ). places ++ c.place_of-place.result ∷ []) (none-prompted _ c.args.self.now.prompted.items held.prompts) in
-          replied_back g.R.AggregateRecorder.history g.R.AggregateRecorder.snapshots g.R.AggregateRecorder.capacity base options (terms (rules_of c.args.self.now.sys) options) s _ c.answer_at.new.apps (Some after) written
+          replied_back g.R.AggregateRecorder.history g.R.AggregateRecorder.stable g.R.AggregateRecorder.settled g.R.AggregateRecorder.snapshots g.R.AggregateRecorder.capacity base options (terms (rules_of c.args.self.now.sys) options) s _ c.answer_at.new.apps (Some after) written
           c.args.request.now c.in-Ok.reply (names_in c.as_mut_slice-apps.result.now) c.place_of-place.result c.answer_at.ensures.same.names (c.keep_accepted.ensures c.place_of-place.result queue)
           (x.2 base options s line u asked
-          (subst (λ (xs : _). Holds g.R.AggregateRecorder.history g.R.AggregateRecorder.snapshots g.R.AggregateRecorder.capacity base options xs (Some x.0) s) (sym c.as_mut_slice-apps.ensures.value) held.holds)),
+          (subst (λ (xs : _). Holds g.R.AggregateRecorder.history g.R.AggregateRecorder.settled g.R.AggregateRecorder.snapshots g.R.AggregateRecorder.capacity base options xs (Some x.0) s) (sym c.as_mut_slice-apps.ensures.value) held.holds)),
     )

@@ -17,7 +17,7 @@ returns-in_err-self-clause-drained g c = λ after may. (
   may,
   λ base options s u held.
       let starved : c.from_residual.result ≡ Err fault.NoMemory = search rules in
-      starved_drain (terms (rules_of c.args.self.now.sys) options) s _ _ (leaders_in (pairs_of c.args.self.now.sys.pipes)) u c.from_residual.result starved (held-contents _ _ _ base options _ _ s held),
+      starved_drain (terms (rules_of c.args.self.now.sys) options) s _ _ (leaders_in (pairs_of c.args.self.now.sys.pipes)) u c.from_residual.result starved (held-contents _ _ _ g.met.R.AggregateRecorder.settled_is_whole _ _ base options _ _ s held),
 )
 
 pub returns-in_err-prompt_leaders-clause-drained : goal.returns-in_err-prompt_leaders-clause-drained
@@ -27,7 +27,7 @@ returns-in_err-prompt_leaders-clause-drained g c = λ after may. (
   λ base options s u held.
       let starved : c.from_residual-in_err-prompt_leaders.result ≡ Err fault.NoMemory = search rules in
       starved_drain (terms (rules_of c.args.self.now.sys) options) s _ _ (leaders_in (pairs_of c.args.self.now.sys.pipes)) u c.from_residual-in_err-prompt_leaders.result starved
-      (subst (λ (xs : _). HoldContents g.R.AggregateRecorder.history g.R.AggregateRecorder.snapshots base xs s.contents) (sym c.prompt_leaders.ensures.same.applications) (held-contents _ _ _ base options _ _ s held)),
+      (subst (λ (xs : _). HoldContents g.R.AggregateRecorder.history g.R.AggregateRecorder.stable g.R.AggregateRecorder.snapshots base xs s.contents) (sym c.prompt_leaders.ensures.same.applications) (held-contents _ _ _ g.met.R.AggregateRecorder.settled_is_whole _ _ base options _ _ s held)),
 )
 
 pub returns-clause-drained : goal.returns-clause-drained
@@ -38,10 +38,10 @@ returns-clause-drained g c = λ after may.
       x.1,
       λ base options s u held.
           subst (λ (sys : System). Drains (terms (rules_of sys) options) s
-          (λ next. HoldsPrompted g.R.AggregateRecorder.history g.R.AggregateRecorder.snapshots g.R.AggregateRecorder.capacity base options c.after.new.self (Some after) next [])
-          (HoldContents g.R.AggregateRecorder.history g.R.AggregateRecorder.snapshots base c.after.new.self.apps.items) (leaders_in (pairs_of c.args.self.now.sys.pipes)) u c.after.result) same.system
+          (λ next. HoldsPrompted g.R.AggregateRecorder.history g.R.AggregateRecorder.settled g.R.AggregateRecorder.snapshots g.R.AggregateRecorder.capacity base options c.after.new.self (Some after) next [])
+          (HoldContents g.R.AggregateRecorder.history g.R.AggregateRecorder.stable g.R.AggregateRecorder.snapshots base c.after.new.self.apps.items) (leaders_in (pairs_of c.args.self.now.sys.pipes)) u c.after.result) same.system
           (x.2 base options s (leaders_in (pairs_of c.args.self.now.sys.pipes)) u (record {
-            holds = subst (λ (xs : _). Holds g.R.AggregateRecorder.history g.R.AggregateRecorder.snapshots g.R.AggregateRecorder.capacity base options xs (Some x.0) s) (sym same.applications) held;
+            holds = subst (λ (xs : _). Holds g.R.AggregateRecorder.history g.R.AggregateRecorder.settled g.R.AggregateRecorder.snapshots g.R.AggregateRecorder.capacity base options xs (Some x.0) s) (sym same.applications) held;
             prompts = (c.in_ok-prompt_leaders.ensures {u = tt}).prompts;
           })),
     )
