@@ -27,8 +27,8 @@ use Rattle.es_process.specs.Decision.{events, refused, unreadable, logs_of}
 use Rattle.es_process.specs.Follows.{IsAsked, IsNotified, MayCome}
 use Rattle.es_process.specs.SystemRules.{rules_of, decision_of, decide_asked, decide_event, decide_entry, decide_cause}
 use Rattle.es_process.proofs.AmongLemmas.{same-name, is-same, contains-here, contains-later, contains-cases, contains-none}
-use Rattle.es_world.specs.Answers.{Outcome, adds, only, decided, commanded, asked, lined, followed_event, followed, come_to, is_led, delivered, made_by}
-use Rattle.es_world.specs.Laws.{AnswerLaw}
+use Rattle.es_world.specs.Answers.{Outcome, adds, only, decided, commanded, asked, lined, followed_event, followed, come_to, is_led, delivered, made, made_by}
+use Rattle.es_world.specs.Laws.{AnswerLaw, RunLaw}
 use Rattle.es_world.specs.World.{World, AreUp, Adds, Makes}
 use Rattle.es_world.specs.declared.steps.StepAnswer.TheVariants as answer
 use Rattle.es_world.specs.declared.steps.WorldStep.TheVariants.{Line, Deliver, Stop}
@@ -140,7 +140,7 @@ same_pair p q is =
 is_same_pair : (p q : Name × Name) → p ≡ q → is_pair p q ≡ true
 is_same_pair p q same = and_from (bytes_eq p.0 q.0) (bytes_eq p.1 q.1) (is-same p.0 q.0 (ap (λ r. r.0) same)) (is-same p.1 q.1 (ap (λ r. r.1) same))
 
-any_pair : (q : Name × Name) (pairs : List (Name × Name)) → list_any (λ p. is_pair p q) pairs ≡ true → Contains pairs q
+pub any_pair : (q : Name × Name) (pairs : List (Name × Name)) → list_any (λ p. is_pair p q) pairs ≡ true → Contains pairs q
 any_pair q [] is = absurd (cc is)
 any_pair q (p ∷ pairs) is = elim (or_cases (is_pair p q) (list_any (λ r. is_pair r q) pairs) is) [
   | inl here ↦ subst (Contains (p ∷ pairs)) (same_pair p q here) (contains-here p pairs)
@@ -227,3 +227,8 @@ pub law_of_answers : AnswerLaw
 law_of_answers sys w (Line app c at sure) = told sys w app (Command (command_text app c)) at sure (lined sys w app c at) (tells_lined sys w app c at)
 law_of_answers sys w (Deliver follower leader id at sure) = told sys w follower (Notification leader id) at sure (delivered sys w follower leader id at) (tells_delivered sys w follower leader id at)
 law_of_answers sys w (Stop kept) = refl
+
+-- to what a list of steps leaves, the steps lead
+pub law_of_runs : RunLaw
+law_of_runs sys w [] = refl
+law_of_runs sys w (s ∷ steps) = ((made sys w s).left, law_of_answers sys w s, law_of_runs sys (made sys w s).left steps)

@@ -1,6 +1,12 @@
 pub mod AnswerLaws
 pub mod ComesLemmas
+pub mod DoubtLemmas
+pub mod ImageLaws
 pub mod JoinLaws
+pub mod LeftLemmas
+pub mod PlaceLemmas
 pub mod RankLaws
 pub mod RoundsLemmas
+pub mod StepLemmas
+pub mod StopLemmas
 pub mod WorldLaws

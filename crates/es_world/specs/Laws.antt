@@ -1,4 +1,4 @@
--- The laws: of worlds and what they answer, of numbered recordings, and of histories that are joined. Their proofs are in WorldLaws, AnswerLaws, RankLaws and JoinLaws.
+-- The laws: of worlds and what they answer, of numbered recordings, of histories that are joined, and of images. Their proofs are in WorldLaws, AnswerLaws, RankLaws, JoinLaws and ImageLaws.
 use Rattle.std.specs.Prelude.{◌≡◌, ◌≤◌, ◌<◌, ◌⊎◌, ℕ, suc, true, List, [], ◌∷◌, ◌++◌, length, take, slice_get, Contains, Some, None}
 use Rattle.es_model.specs.declared.event.Recording.{Recording}
 use Rattle.es_model.specs.declared.event.Cause.{Cause}
@@ -10,10 +10,11 @@ use Rattle.es_model.specs.declared.declaration.System.{System}
 use Rattle.es_recorder.specs.Stable.{IsPrefix}
 use Rattle.es_process.specs.Consistent.{IsGrounded, IsConsistent}
 use Rattle.es_process.specs.Decision.{Rules}
-use Rattle.es_process.specs.Reached.{ahead}
+use Rattle.es_process.specs.Reached.{tracked_of, last_of, ahead}
 use Rattle.es_process.specs.SystemRules.{rules_of}
 use Rattle.es_process.specs.inner.Lawful.{IsLawful}
 use Rattle.es_world.specs.Answers.{made}
+use Rattle.es_world.specs.Steps.{left_after}
 use Rattle.es_world.specs.World.{World, opened, Steps, Runs}
 use Rattle.es_world.specs.declared.steps.WorldStep.{WorldStep}
 
@@ -39,6 +40,10 @@ WorldLaw = (rules : Rules) → IsLawful rules → (openings : Histories) (steps 
 -- what a step of a declared system answers leaves a world that the step makes
 abbrev pub AnswerLaw : Type 0
 AnswerLaw = (sys : System) (w : World) (s : WorldStep) → Steps (rules_of sys) w s (made sys w s).left
+
+-- to what a list of steps leaves, the steps lead
+abbrev pub RunLaw : Type 0
+RunLaw = (sys : System) (w : World) (steps : List WorldStep) → Runs (rules_of sys) w steps (left_after sys w steps)
 
 -- ---- numbered recordings
 
@@ -74,3 +79,12 @@ abbrev pub JoinLaw : Type 0
 JoinLaw = (rules : Rules) → IsLawful rules → (openings image histories later : Histories)
     → IsConsistent rules openings histories → ahead rules.pairs image ≡ None → AreBetween rules.names openings image histories
     → IsConsistent rules image later → IsConsistent rules openings later
+
+-- ---- images
+
+-- the law on images: where no follower tracks a notification past those of its leader that are stable, images that lie between what is stable and what is held aren't ahead
+abbrev pub ImageLaw : Type 0
+ImageLaw = (pairs : List (Name × Name)) (histories stable image : Histories)
+    → ((p : Name × Name) → Contains pairs p → tracked_of histories p ≤ last_of stable p)
+    → ((app : Name) → IsPrefix (stable app) (image app) × IsPrefix (image app) (histories app))
+    → ahead pairs image ≡ None

@@ -4,6 +4,14 @@
 //! and of joins. The proofs of the laws are in `proofs/`.
 #![tactic(auto)]
 
+mod lending;
+mod outcomes;
+mod places;
+mod requests;
+mod stepping;
 mod steps;
+mod stopping;
+mod world;
 
 pub use steps::{AppHistory, Histories, StepAnswer, WorldStep};
+pub use world::World;
