@@ -1,22 +1,13 @@
-//! Runs the cases of values as texts, records, names, small collections, the outside, and recorders in tables: those
-//! of the crates that know of no system.
+//! Runs the cases of all crates: those of values and recorders in tables, those of systems, and those of runs. A file of cases is
+//! named after the crate that answers them.
 #![tactic(auto)]
-
-mod atoms;
-mod collections;
-mod copies;
-mod inputs;
-mod names;
-mod outside;
-mod records;
-mod stores;
 
 use es_suite::Suite;
 use serde_json::Value;
 use std::alloc::Global;
 use std::rt::{Clock, Files};
 
-// The cases of these crates, with the files, streams and clock at hand.
+// All cases, with the files, streams and clock at hand.
 #[derive(Drop)]
 struct Cases<'a, R> {
     rt: &'a R,
@@ -27,21 +18,18 @@ impl<'a, R: Files + Print + Input + Clock> Suite for Cases<'a, R> {
         &self,
         alloc: Global,
         file: &str,
-        _base: &Value,
+        base: &Value,
         case: &Value,
     ) -> anyhow::Result<Value> {
-        match file {
-            "atoms.jsonl" => atoms::answer(alloc, case),
-            "collections.jsonl" => collections::answer(alloc, case),
-            "copies.jsonl" => copies::answer(alloc, case),
-            "damage.jsonl" | "layouts.jsonl" | "recorders.jsonl" | "tables.jsonl" => {
-                stores::answer(alloc, case)
-            }
-            "inputs.jsonl" => inputs::answer(alloc, case),
-            "names.jsonl" => names::answer(alloc, case),
-            "outside.jsonl" => outside::answer(self.rt, alloc, case),
-            "records.jsonl" => records::answer(alloc, case),
-            _ => Err(anyhow::anyhow!("no kind of cases")),
+        if let Some(file) = file.strip_prefix("value_") {
+            return es_value_cases::answer(self.rt, alloc, file, case);
+        }
+        if let Some(file) = file.strip_prefix("system_") {
+            return es_system_cases::answer(alloc, file, base, case);
+        }
+        match file.strip_prefix("run_") {
+            Some(file) => es_run_cases::answer(alloc, file, base, case),
+            None => Err(anyhow::anyhow!("no kind of cases")),
         }
     }
 }

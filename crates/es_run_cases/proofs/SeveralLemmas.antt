@@ -9,13 +9,14 @@ use Rattle.es_process.specs.declared.application.Application.{Application}
 use Rattle.es_process.specs.Standing.{names_in}
 use Rattle.es_process.proofs.AmongLemmas.{same-name, contains-here, contains-later}
 
-pub named-step : {R : Type 0} (declared : List App) (apps : List (Application R)) (x : App) (y : Application R) → 1 ≤ length declared → 1 ≤ length apps → x ≡ get_or declared 0 x → y ≡ get_or apps 0 y
-    → bytes_eq y.name x.name ≡ true → names_in (take (length apps - 1) (drop 1 apps)) ≡ map (λ a. a.name) (take (length declared - 1) (drop 1 declared)) → names_in apps ≡ map (λ a. a.name) declared
-named-step [] apps x y some there first next same rest = absurd (omega arith)
-named-step (a ∷ others) [] x y some there first next same rest = absurd (omega arith)
-named-step (a ∷ others) (b ∷ bs) x y some there first next same rest =
-    let head : b.name ≡ a.name = (λ i. (sym next i).name) ∙ same-name _ _ same ∙ (λ i. (first i).name) in
-    let tail : names_in bs ≡ map (λ a. a.name) others = sym (ap names_in (take_rest (b ∷ bs) 1)) ∙ rest ∙ ap (map (λ a. a.name)) (take_rest (a ∷ others) 1) in
+-- things with the names of those declared, one more of each
+pub named-step : {A : Type 0} (f : A → Name) (declared : List App) (things : List A) (x : App) (y : A) → 1 ≤ length declared → 1 ≤ length things → x ≡ get_or declared 0 x → y ≡ get_or things 0 y
+    → bytes_eq (f y) x.name ≡ true → map f (take (length things - 1) (drop 1 things)) ≡ map (λ a. a.name) (take (length declared - 1) (drop 1 declared)) → map f things ≡ map (λ a. a.name) declared
+named-step f [] things x y some there first next same rest = absurd (omega arith)
+named-step f (a ∷ others) [] x y some there first next same rest = absurd (omega arith)
+named-step f (a ∷ others) (b ∷ bs) x y some there first next same rest =
+    let head : f b ≡ a.name = (λ i. f (sym next i)) ∙ same-name _ _ same ∙ (λ i. (first i).name) in
+    let tail : map f bs ≡ map (λ a. a.name) others = sym (ap (map f) (take_rest (b ∷ bs) 1)) ∙ rest ∙ ap (map (λ a. a.name)) (take_rest (a ∷ others) 1) in
     λ i. head i ∷ tail i
 
 one_more : {R : Type 0} (a : Application R) (others : List (Application R)) (name : Name) (b : Bool) → bytes_eq a.name name ≡ b → (position_or_len (λ x. bytes_eq x.name name) others < length others → Contains (names_in others) name)

@@ -17,7 +17,8 @@ use es_suite::told::{self, Items, Members};
 use serde_json::Value;
 use std::alloc::Global;
 
-fn names(alloc: Global, rows: &[Value]) -> anyhow::Result<Names> {
+/// Some names.
+pub(crate) fn names(alloc: Global, rows: &[Value]) -> anyhow::Result<Names> {
     let mut names = Names::new(alloc);
     for row in rows {
         names.push(Text::from_str(alloc, row.as_str().context("no name")?)?)?;

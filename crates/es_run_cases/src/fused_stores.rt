@@ -98,11 +98,13 @@ fn fuse_of(fuses: &[Fuse], app: &Text) -> (u64, bool) {
 
 impl Stores for FusedStores {
     ghost use Rattle.std.specs.Prelude.{◌+◌};
-    ghost use Rattle.es_memory.specs.contracts.memory_stores.MemoryStoresStores.TheImpl.Laws.{formed-law, snapshots_once-law};
+    ghost use Rattle.es_memory.specs.contracts.memory_stores.MemoryStoresStores.TheImpl.Laws.{formed-law, snapshots_once-law, stable_is_front-law};
 
     type R = FuseRecorder;
 
     ghost held = { λ s. ⟦<MemoryStores as Stores>⟧.held s.inner };
+
+    ghost stable = { λ s. ⟦<MemoryStores as Stores>⟧.stable s.inner };
 
     ghost snapshots = { λ s. ⟦<MemoryStores as Stores>⟧.snapshots s.inner };
 
@@ -111,6 +113,8 @@ impl Stores for FusedStores {
     ghost faults = { λ s. ⟦<MemoryStores as Stores>⟧.faults s.inner + s.closed };
 
     ghost formed = { λ s. formed-law s.inner };
+
+    ghost stable_is_front = { λ s. stable_is_front-law s.inner };
 
     ghost snapshots_once = { λ s. snapshots_once-law s.inner };
 

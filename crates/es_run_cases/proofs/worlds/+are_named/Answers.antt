@@ -1,0 +1,9 @@
+use Rattle.std.proofs.Common.{rules, ◌≡◌, true}
+use Rattle.std.specs.Str.{bytes_eq}
+use Rattle.es_run_cases.proofs.SeveralLemmas.{named-step}
+use Rattle.es_run_cases.proofs.worlds.+are_named.Goals as goal
+
+pub returns-then-eq : goal.returns-then-eq
+returns-then-eq t c = λ so.
+    let same : bytes_eq c.held-item.result.app c.first-item.result.name ≡ true = search rules in
+    named-step (λ a. a.app) c.args.declared.now c.args.histories.now c.first-item.result c.held-item.result c.in-len1-up.len_at_least c.in-len1-up-histories.len_at_least c.first-item.is c.held-item.is same (c.are_named.ensures so)
