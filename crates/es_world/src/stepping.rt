@@ -92,7 +92,8 @@ impl World {
 
     /// The recordings of each application, in declared order.
     pub fn histories(&self) -> &[AppHistory]
-        ensures { histories_in result.now ≡ (world_of self.now).histories }
+        ensures held { histories_in result.now ≡ (world_of self.now).histories }
+        ensures named { map (λ a. a.app) result.now ≡ app_names (system_of self.now) }
     {
         self.histories.as_slice()
     }

@@ -58,6 +58,6 @@ pub enum StepAnswer {
     Refused { code: Text, rule: u64 },
     /// An entry that is needed has no meaning.
     Unreadable { app: Text, id: u64 },
-    /// The application is down.
+    /// This application is down: that of the line, or the follower, or else the leader.
     Down { app: Text },
 }
